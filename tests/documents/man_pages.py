@@ -293,7 +293,7 @@ def check_rule_texts(checks):
     source = body_of(read("rule_warnings/src/warning.rt"), "append_kind").replace('push_text(out, "line ")?;', "")
     told = ["line M" + text if text.startswith(" ") else text for text in re.findall(r'push_text\(out, "([^"]*)"\)', source)]
     checks.same("tcprules: warnings, in their order", page.below("tcprules: line N: WARNING"), told)
-    phases = list(words_of(read("rules_install/src/lib.rt"), "as_str").values())
+    phases = list(words_of(read("dir_calls/src/phase.rt"), "as_str").values())
     body = dict(page.items("DIAGNOSTICS", "-diag"))["tcprules: device fault at PHASE"]
     named = [word for line in body if line.startswith(".Cm ") for word in re.findall(r"\w+", line[4:])]
     checks.same("tcprules: phases", list(dict.fromkeys(named)), phases)

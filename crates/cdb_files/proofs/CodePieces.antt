@@ -6,12 +6,12 @@ use Rattle.std.proofs.Math.Seq.{take-add}
 use Rattle.std.proofs.lemmas.Bool.{and_left, and_parts, and_right, eqb-true, cond-false, or_from, or_parts}
 use Rattle.std.proofs.lemmas.List.{drop-drop, drop-take, drop_all, drop_at, length-append, length-drop, length-take-le, take-append-drop, take_all, take_at}
 use Rattle.std.proofs.lemmas.List.Folds.{list_any-append}
-use Rattle.rule_lines.specs.Codes.{BeginsNone, IsEndOf, ReadsOn, decoded, setting_code, setting_in, settings_in, settings_with, verdict_code, verdict_in}
-use Rattle.rule_lines.specs.Lines.{has_byte, pieces_of}
-use Rattle.rule_lines.specs.Settings.{Assignment}
-use Rattle.rule_lines.specs.declared.instr.Verdict.{Verdict}
-use Rattle.rule_lines.specs.declared.instr.Verdict.TheVariants.{Allow, Deny}
-use Rattle.rule_lines.proofs.DecodeLemmas.{ReadsOn-all, decoded-found, decoded-refused, settings_in-read, settings_in-refused, settings_in-unended}
+use Rattle.rule_lookup.specs.Codes.{BeginsNone, IsEndOf, ReadsOn, decoded, setting_code, setting_in, settings_in, settings_with, verdict_code, verdict_in}
+use Rattle.rule_lookup.specs.Lines.{has_byte, pieces_of}
+use Rattle.rule_lookup.specs.Settings.{Assignment}
+use Rattle.rule_lookup.specs.declared.instr.Verdict.{Verdict}
+use Rattle.rule_lookup.specs.declared.instr.Verdict.TheVariants.{Allow, Deny}
+use Rattle.rule_lookup.proofs.DecodeLemmas.{ReadsOn-all, decoded-found, decoded-refused, settings_in-read, settings_in-refused, settings_in-unended}
 use Rattle.cdb_files.specs.Parts.{AddsCodes, IsFirst, bytes_at}
 use Rattle.cdb_files.proofs.PieceLemmas.{take-take}
 

@@ -1,15 +1,15 @@
 -- The words of the parts of a lookup, as those of the whole.
 use Rattle.std.proofs.Common.{◌≡◌, ℕ, Bool, List, None, Result, Ok, Err, IsTrue, refl, sym, ◌∙◌, subst}
-use Rattle.rule_lines.specs.Codes.{decoded, settings_in, RefusesCode}
-use Rattle.rule_lines.specs.Lines.{pieces_of}
-use Rattle.rule_lines.specs.Lookups.{Finding}
-use Rattle.rule_lines.specs.Lookups.Finding.{Broken}
-use Rattle.rule_lines.specs.declared.code.CodeFault.{CodeFault}
-use Rattle.rule_lines.specs.declared.code.CodeFault.TheVariants.{NotCode}
-use Rattle.rule_lines.specs.declared.code.DecodeFault.{DecodeFault}
-use Rattle.rule_lines.specs.declared.code.DecodeFault.TheVariants.{Code as NoCode, OutOfMemory as NoMemoryToDecode}
-use Rattle.rule_lines.specs.declared.source.FindFault.{FindFault}
-use Rattle.rule_lines.specs.declared.source.FindFault.TheVariants.{Short, Device, OutOfMemory}
+use Rattle.rule_lookup.specs.Codes.{decoded, settings_in, RefusesCode}
+use Rattle.rule_lookup.specs.Lines.{pieces_of}
+use Rattle.rule_lookup.specs.Lookups.{Finding}
+use Rattle.rule_lookup.specs.Lookups.Finding.{Broken}
+use Rattle.rule_lookup.specs.declared.code.CodeFault.{CodeFault}
+use Rattle.rule_lookup.specs.declared.code.CodeFault.TheVariants.{NotCode}
+use Rattle.rule_lookup.specs.declared.code.DecodeFault.{DecodeFault}
+use Rattle.rule_lookup.specs.declared.code.DecodeFault.TheVariants.{Code as NoCode, OutOfMemory as NoMemoryToDecode}
+use Rattle.rule_lookup.specs.declared.source.FindFault.{FindFault}
+use Rattle.rule_lookup.specs.declared.source.FindFault.TheVariants.{Short, Device, OutOfMemory}
 use Rattle.rule_lookup.specs.declared.decision.DecideFault.{DecideFault}
 use Rattle.rule_lookup.specs.declared.decision.DecideFault.TheVariants.{Find, Code, OutOfMemory as NoMemory}
 use Rattle.rule_lookup.specs.Decisions.{of_code}

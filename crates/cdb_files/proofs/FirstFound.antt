@@ -4,7 +4,7 @@ use Rattle.std.specs.List.{before_first, position_or_len}
 use Rattle.std.proofs.lemmas.Bool.{cases_eq, cases_order, eq-eqb, le-leb, ne_eqb, not_from_false, not_from_true, not-true, both_ways}
 use Rattle.std.proofs.lemmas.List.{get_or-take, get_or_default, length-take-le}
 use Rattle.std.proofs.lemmas.List.Sums.{fails_before_first, passes_at_first}
-use Rattle.rule_lines.specs.Lookups.Finding.{Has, Absent}
+use Rattle.rule_lookup.specs.Lookups.Finding.{Has, Absent}
 use Rattle.cdb_files.specs.Format.{Pair, entries_of, hash_of}
 use Rattle.cdb_files.specs.IsCdb.{IsCdb}
 use Rattle.cdb_files.specs.Slots.{is_empty, is_same, pointer_at, probe_at, slots_at, table_of}

@@ -2,7 +2,7 @@
 use Rattle.std.proofs.Common.{◌≡◌, ◌≢◌, ℕ, ◌+◌, ◌==◌, ◌||◌, true, false, not, List, length, take, drop, bytes_eq, inl, inr, refl, sym, ap, ◌∙◌, arith}
 use Rattle.std.proofs.lemmas.Bool.{and_from, and_right, or_from, or_right, not_from_true, not_from_false, cases_eq, eq-eqb, false_from_ne_true, le-leb, ne_eqb}
 use Rattle.std.proofs.lemmas.Slice.Eq.{bytes_eq-Decides}
-use Rattle.rule_lines.specs.Lookups.Finding.{Has}
+use Rattle.rule_lookup.specs.Lookups.Finding.{Has}
 use Rattle.cdb_files.specs.Format.{Pair, hash_of, number_at}
 use Rattle.cdb_files.specs.Slots.{is_empty}
 use Rattle.cdb_files.specs.Reading.{has_other_key, is_passed, lies_in, value_at}

@@ -6,7 +6,7 @@ use Rattle.std.proofs.Math.Seq.{take-add}
 use Rattle.std.proofs.lemmas.List.{drop-drop, drop-take, get_or-drop, get_or-take, length-append, length-drop, length-take, length-take-le, nil_from_length, take-append-drop, take-append-le, take_all, take_at}
 use Rattle.std.proofs.lemmas.Str.{IsCharBoundary-from_take, IsCharBoundary-past_char, IsUtf8-drop, IsUtf8-take, len_utf8_bounds}
 use Rattle.cdb_files.specs.Format.{number_at, two_numbers_at}
-use Rattle.rule_lines.specs.Codes.{decoded}
+use Rattle.rule_lookup.specs.Codes.{decoded}
 use Rattle.cdb_files.specs.declared.stage.Stage.{Stage}
 use Rattle.cdb_files.specs.declared.stage.Stage.TheVariants.{Nothing, NoCode}
 use Rattle.cdb_files.specs.declared.window.Window.{Window}

@@ -9,8 +9,8 @@ use Rattle.cdb_files.specs.Format.{hash_of, two_numbers_at}
 use Rattle.cdb_files.specs.Slots.{pointer_at, probe, table_of}
 use Rattle.cdb_files.specs.Reading.{has_other_key, lies_in, reading, value_at}
 use Rattle.cdb_files.specs.Parts.{found_in_probe, found_in_slots, record_at, slots_from}
-use Rattle.rule_lines.specs.Lookups.{Finding}
-use Rattle.rule_lines.specs.Lookups.Finding.{Has, Absent, Broken}
+use Rattle.rule_lookup.specs.Lookups.{Finding}
+use Rattle.rule_lookup.specs.Lookups.Finding.{Has, Absent, Broken}
 
 -- a list turned round at a position, read at an index
 get_or-turned : {X : Type 0} (xs : List X) (first k : ℕ) (d : X) → first < length xs → k < length xs → get_or (drop first xs ++ take first xs) k d ≡ get_or xs ((first + k) % length xs) d

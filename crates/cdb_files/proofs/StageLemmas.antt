@@ -3,11 +3,11 @@ use Rattle.std.proofs.Common.{◌≡◌, ℕ, ◌<◌, zero, suc, true, false, �
 use Rattle.std.specs.Str.{IsAscii, IsUtf8, is_utf8}
 use Rattle.std.proofs.lemmas.Bool.{and_parts, both_ways, ltb-true, not-true, or_parts}
 use Rattle.std.proofs.lemmas.Str.{IsUtf8-append, IsUtf8-from_ascii, IsUtf8-from_is_utf8, IsUtf8-nil}
-use Rattle.rule_lines.specs.declared.instr.Verdict.{Verdict}
-use Rattle.rule_lines.specs.declared.instr.Verdict.TheVariants.{Allow, Deny}
-use Rattle.rule_lines.specs.Codes.{decoded, setting_code, verdict_code}
-use Rattle.rule_lines.specs.Lines.{has_byte}
-use Rattle.rule_lines.specs.Settings.{Assignment, AreSettings, is_name, is_setting, is_value}
+use Rattle.rule_lookup.specs.declared.instr.Verdict.{Verdict}
+use Rattle.rule_lookup.specs.declared.instr.Verdict.TheVariants.{Allow, Deny}
+use Rattle.rule_lookup.specs.Codes.{decoded, setting_code, verdict_code}
+use Rattle.rule_lookup.specs.Lines.{has_byte}
+use Rattle.rule_lookup.specs.Settings.{Assignment, AreSettings, is_name, is_setting, is_value}
 use Rattle.rule_lookup.proofs.CodeFaults.{decoded-none}
 use Rattle.cdb_files.specs.declared.stage.Stage.{Stage}
 use Rattle.cdb_files.specs.declared.stage.Stage.TheVariants.{Nothing, Whole, Plus, Name, Value, NoCode}

@@ -1,8 +1,8 @@
 -- The pairs that rules are stored as.
 use Rattle.std.proofs.Common.{◌≡◌, ℕ, List, [], ◌∷◌, true, false, bytes_eq, refl}
 use Rattle.std.specs.Prelude.{if◌then◌else◌, find, Some}
-use Rattle.rule_lines.specs.Lookups.{code_under, found_among}
-use Rattle.rule_lines.specs.Pairs.{Rule}
+use Rattle.rule_lookup.specs.Lookups.{code_under, found_among}
+use Rattle.rule_lookup.specs.Pairs.{Rule}
 use Rattle.cdb_files.specs.Format.{Pair}
 use Rattle.cdb_files.specs.Compiled.{pair_of, stored}
 use Rattle.cdb_files.specs.Reading.{first_value, value_of}

@@ -2,8 +2,8 @@
 use Rattle.std.specs.Prelude.{ℕ, List, map}
 use Rattle.cdb_files.specs.Format.{Pair}
 use Rattle.cdb_files.specs.IsCdb.{IsCdb}
-use Rattle.rule_lines.specs.Codes.{code_of}
-use Rattle.rule_lines.specs.Pairs.{Rule, pairs_of}
+use Rattle.rule_lookup.specs.Codes.{code_of}
+use Rattle.rule_lookup.specs.Pairs.{Rule, pairs_of}
 
 -- a rule is stored under its address, as the code of its instruction
 abbrev pub pair_of : Rule → Pair

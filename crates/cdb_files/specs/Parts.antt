@@ -4,13 +4,13 @@ use Rattle.std.specs.List.{range_with_len}
 use Rattle.cdb_files.specs.Format.{hash_of, two_numbers_at}
 use Rattle.cdb_files.specs.Slots.{probe}
 use Rattle.cdb_files.specs.Reading.{found_at, has_other_key, is_passed, value_at}
-use Rattle.rule_lines.specs.Lookups.{Finding}
-use Rattle.rule_lines.specs.Lookups.Finding.{Has, Absent, Broken}
-use Rattle.rule_lines.specs.declared.source.FindFault.{FindFault}
-use Rattle.rule_lines.specs.declared.source.FindFault.TheVariants.{Short, Device, OutOfMemory}
-use Rattle.rule_lines.specs.Settings.{Assignment}
-use Rattle.rule_lines.specs.Codes.{decoded, settings_in, settings_with}
-use Rattle.rule_lines.specs.Lines.{has_byte, pieces_of}
+use Rattle.rule_lookup.specs.Lookups.{Finding}
+use Rattle.rule_lookup.specs.Lookups.Finding.{Has, Absent, Broken}
+use Rattle.rule_lookup.specs.declared.source.FindFault.{FindFault}
+use Rattle.rule_lookup.specs.declared.source.FindFault.TheVariants.{Short, Device, OutOfMemory}
+use Rattle.rule_lookup.specs.Settings.{Assignment}
+use Rattle.rule_lookup.specs.Codes.{decoded, settings_in, settings_with}
+use Rattle.rule_lookup.specs.Lines.{has_byte, pieces_of}
 use Rattle.rule_lookup.specs.declared.decision.DecideFault.{DecideFault}
 use Rattle.rule_lookup.specs.declared.decision.DecideFault.TheVariants.{Find, Code, OutOfMemory as NoMemory}
 use Rattle.cdb_files.specs.declared.cdb_file.Stored.{Stored}

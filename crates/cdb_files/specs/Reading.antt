@@ -2,8 +2,8 @@
 use Rattle.std.specs.Prelude.{ℕ, ◌+◌, ◌*◌, ◌==◌, ◌&&◌, ◌||◌, not, nat_le, Bool, List, length, take, drop, find, Option, Some, None, bytes_eq, if◌then◌else◌}
 use Rattle.cdb_files.specs.Format.{Pair, hash_of, number_at}
 use Rattle.cdb_files.specs.Slots.{is_empty, pointer_at, probe_at, table_of}
-use Rattle.rule_lines.specs.Lookups.{Finding}
-use Rattle.rule_lines.specs.Lookups.Finding.{Has, Absent, Broken}
+use Rattle.rule_lookup.specs.Lookups.{Finding}
+use Rattle.rule_lookup.specs.Lookups.Finding.{Has, Absent, Broken}
 
 -- so many bytes from a position on lie in a file
 abbrev pub lies_in : List ℕ → ℕ → ℕ → Bool

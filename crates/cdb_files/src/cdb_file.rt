@@ -4,9 +4,9 @@ ghost use Rattle.cdb_files.specs.Format.{two_numbers_at};
 ghost use Rattle.cdb_files.specs.Parts.{AddsCodes, CodeFails, Covers, FailsOf, IsFault, IsFirst, IsInside, IsReadFault, IsWindowOf, ReadFails, SettingsFail, Tells, bytes_at, found_in_slots, record_at, value_of, value_position};
 ghost use Rattle.cdb_files.specs.Reading.{lies_in, reading};
 ghost use Rattle.cdb_files.specs.Sources.{trust_of};
-ghost use Rattle.rule_lines.specs.Codes.{decoded, settings_in};
-ghost use Rattle.rule_lines.specs.Lines.{has_byte, pieces_of};
-ghost use Rattle.rule_lines.specs.Lookups.Trust.{Sound};
+ghost use Rattle.rule_lookup.specs.Codes.{decoded, settings_in};
+ghost use Rattle.rule_lookup.specs.Lines.{has_byte, pieces_of};
+ghost use Rattle.rule_lookup.specs.Lookups.Trust.{Sound};
 
 use crate::hash;
 use crate::layout::HEADER_LENGTH;
@@ -14,11 +14,10 @@ use crate::stage::{Stage, text_front};
 use crate::window::{FIRST_RECORD, FIRST_SLOTS, VALUE_PIECE, Window};
 use byteorder::{ByteOrder, LittleEndian};
 use dir_calls::RulesFile;
-use rule_lines::{
-    CodeFault, FindFault, Instr, PairSource, Settings, decode_instr, push_parts, push_settings,
-    split_at_byte, split_verdict,
+use rule_lookup::{
+    CodeFault, DecideFault, FindFault, Instr, PairSource, RuleSource, Settings, decode_instr,
+    push_parts, push_settings, split_at_byte, split_verdict,
 };
-use rule_lookup::{DecideFault, RuleSource};
 use std::alloc::Global;
 use std::marker::Model;
 

@@ -6,8 +6,8 @@ ghost use Rattle.cdb_files.specs.Written.{AreBytes, Written};
 ghost use Rattle.cdb_files.specs.IsCdb.{IsCdb};
 ghost use Rattle.cdb_files.specs.Compiled.{Compiled};
 ghost use Rattle.cdb_files.specs.Reading.{first_value, reading};
-ghost use Rattle.rule_lines.specs.Lookups.{found_among};
-ghost use Rattle.rule_lines.specs.Pairs.{pairs_of};
+ghost use Rattle.rule_lookup.specs.Lookups.{found_among};
+ghost use Rattle.rule_lookup.specs.Pairs.{pairs_of};
 
 /// The header, the pieces of the records and those of the tables, joined in order, are a compiled file of the pairs.
 pub fn pieces()

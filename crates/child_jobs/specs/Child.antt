@@ -2,7 +2,7 @@
 use Rattle.std.specs.Prelude.{ℕ, List, [], ◌∷◌, ◌++◌, map, Option, Some, None, codes, decimal}
 use Rattle.std.specs.List.{fold}
 use Rattle.std.specs.Net.Text.{ipv4_text}
-use Rattle.rule_lines.specs.Settings.{Assignment}
+use Rattle.rule_lookup.specs.Settings.{Assignment}
 use Rattle.rule_lookup.specs.declared.decision.Decision.{Decision}
 use Rattle.rule_lookup.specs.Peers.{Client}
 use Rattle.child_jobs.specs.Ends.{LocalEnd}

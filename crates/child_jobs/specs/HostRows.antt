@@ -2,7 +2,7 @@
 use Rattle.std.specs.Prelude.{ℕ, ◌+◌, Bool, true, false, ◌&&◌, ◌==◌, not, nat_le, nat_lt, List, [], ◌∷◌, map, length, drop, Option, Some, None, bytes_eq, if◌then◌else◌}
 use Rattle.std.specs.Char.{to_ascii_lowercase}
 use Rattle.std.specs.List.{list_any, list_all, take_while}
-use Rattle.rule_lines.specs.Lines.{Line, lines_of, trimmed, is_blank}
+use Rattle.rule_lookup.specs.Lines.{Line, lines_of, trimmed, is_blank}
 use Rattle.rule_lookup.specs.Addresses.{ipv4_in}
 
 -- a line is ignored, gives an address a name, says that a name has an address, or is bad

@@ -7,8 +7,7 @@ ghost use Rattle.child_jobs.specs.Variables.{with_value, with_values};
 
 use crate::{Environment, Local};
 use itoa::Buffer;
-use rule_lines::Setting;
-use rule_lookup::{Decision, Peer};
+use rule_lookup::{Decision, Peer, Setting};
 use std::alloc::{AllocError, Global};
 use std::net::Ipv4Addr;
 

@@ -1,6 +1,6 @@
 //! The host table, which knows names of addresses and addresses of names.
 ghost use Rattle.std.specs.Prelude.{◌≡◌, ◌⊎◌, ◌||◌, ℕ, List, Some, None, IfOk, IfErr, IfSome, OnOk, length};
-ghost use Rattle.rule_lines.specs.Lines.{trimmed};
+ghost use Rattle.rule_lookup.specs.Lines.{trimmed};
 ghost use Rattle.rule_lookup.specs.Addresses.{ipv4_in};
 ghost use Rattle.rule_lookup.specs.Peers.{given};
 ghost use Rattle.child_jobs.specs.HostMaps.{HasHostName, host_name_in, key_of, option_or, row_said, row_read};
@@ -8,7 +8,7 @@ ghost use Rattle.child_jobs.specs.HostRows.{after_blanks, are_visible, first_bad
 ghost use Rattle.child_jobs.specs.Hosts.{SaysAs, confirms, name_of};
 ghost use Rattle.child_jobs.specs.declared.hosts.HostFault.TheVariants.{BadLine, OutOfMemory};
 
-use rule_lines::lines::{first_line, is_blank, trim_blanks};
+use rule_lookup::lines::{first_line, is_blank, trim_blanks};
 use std::alloc::{AllocError, AllocFailed, Global};
 use std::collections::{BTreeMap, BTreeSet};
 use std::marker::Model;

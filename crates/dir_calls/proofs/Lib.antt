@@ -1,10 +1,6 @@
 pub mod ChangedFiles
 pub mod Clearing
 pub mod Counting
-pub mod EntryLists
-pub mod FuseLemmas
-pub mod History
-pub mod InMemory
 pub mod Lasting
 pub mod Moments
 pub mod NameRules
@@ -17,7 +13,6 @@ pub mod Passing
 pub mod Removals
 pub mod Renames
 pub mod Replacing
-pub mod Results
 pub mod Scratches
 pub mod Stops
 pub mod Torn

@@ -7,7 +7,7 @@ use Rattle.std.specs.Cmp.Lexicographic.{slice_cmp, nat_list_cmp_total, same_text
 use Rattle.std.specs.FinMap.Entries.{find-append}
 use Rattle.std.specs.FinMap.{find, get, insert, remove, from_entries, get-from_entries, get-insert, get-remove, same_map, slice_cmp-IsAntisymmetric, nat_cmp-IsAntisymmetric}
 use Rattle.dir_calls.specs.NameTable.{Names, same_name}
-use Rattle.dir_calls.specs.Entries.{Pairs, others}
+use Rattle.dir_calls.specs.Pairs.{Pairs, others}
 use Rattle.dir_calls.proofs.NamesOf.{same_name-self}
 
 -- what stands first under a name

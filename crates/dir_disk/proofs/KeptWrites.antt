@@ -13,7 +13,7 @@ use Rattle.dir_calls.specs.Outcomes.{Fails}
 use Rattle.dir_disk.specs.DiskSteps.{AllOrNone, MayWrite, Spoils, after_sync, after_write, created, rewritten_at}
 use Rattle.dir_disk.specs.OsDir.{GivesUp, IsWritable, kept_back, shape}
 use Rattle.dir_disk.specs.KeptImages.{kept_image, disk_image}
-use Rattle.dir_calls.proofs.FuseLemmas.{fails_idle}
+use Rattle.dir_calls.proofs.Passing.{fails_idle}
 use Rattle.dir_calls.proofs.WithFiles.{twice, idle, changed, scratch_kept}
 
 -- the file that may be written

@@ -1,6 +1,5 @@
 pub mod DiskWrites
 pub mod KeptWrites
-pub mod MemWrites
 pub mod OsCalls
 pub mod Removals
 pub mod Steps

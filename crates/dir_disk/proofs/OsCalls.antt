@@ -11,7 +11,7 @@ use Rattle.dir_disk.specs.OsDir.{GivesUp, Holds, IsWritable, kept_back, shape}
 use Rattle.dir_disk.specs.DiskSteps.{AllOrNone}
 use Rattle.dir_calls.proofs.ChangedFiles.{file_was}
 use Rattle.dir_disk.specs.KeptImages.{shape_of}
-use Rattle.dir_calls.proofs.FuseLemmas.{fails_idle}
+use Rattle.dir_calls.proofs.Passing.{fails_idle}
 use Rattle.dir_calls.proofs.Renames.{moved_files}
 use Rattle.dir_calls.proofs.WithFiles.{changed, twice, names_kept}
 use Rattle.dir_disk.proofs.DiskWrites.{keeps_more}

@@ -2,7 +2,6 @@
 pub mod DiskFaults
 pub mod DiskSteps
 pub mod KeptImages
-pub mod MemDisk
 pub mod OsDir
 pub mod OsFile
 pub mod OsParts

@@ -2,6 +2,7 @@
 ghost use Rattle.std.specs.Prelude.{◌≡◌};
 
 use std::alloc::{AllocError, Global};
+use std::cell::Cell;
 use std::io;
 use std::sync::Arc;
 use std::sync::atomic::{AtomicU32, Ordering};
@@ -17,26 +18,6 @@ pub enum FailedOn {
     Onto,
 }
 
-impl FailedOn {
-    // Its number, as notes keep it.
-    fn number(self) -> u32 {
-        match self {
-            FailedOn::Folder => 0,
-            FailedOn::Name => 1,
-            FailedOn::Onto => 2,
-        }
-    }
-
-    // The one with this number.
-    fn of_number(number: u32) -> FailedOn {
-        match number {
-            0 => FailedOn::Folder,
-            1 => FailedOn::Name,
-            _ => FailedOn::Onto,
-        }
-    }
-}
-
 /// A call of the system that failed.
 #[derive(Clone, Copy)]
 pub struct DiskFailure {
@@ -50,7 +31,7 @@ pub struct DiskFailure {
 /// known.
 #[derive(Drop)]
 pub(crate) struct Notes {
-    on: AtomicU32,
+    on: Cell<FailedOn>,
     error: Arc<AtomicU32, Global>,
 }
 
@@ -58,7 +39,7 @@ impl Notes {
     /// Notes of a disk whose calls have not failed.
     pub(crate) fn new(alloc: Global) -> Result<Notes, AllocError> {
         Ok(Notes {
-            on: AtomicU32::new(FailedOn::Folder.number()),
+            on: Cell::new(FailedOn::Folder),
             error: Arc::new(alloc, AtomicU32::new(0))?,
         })
     }
@@ -67,7 +48,7 @@ impl Notes {
     pub(crate) fn note<T>(&self, on: FailedOn, outcome: io::Result<T>) -> io::Result<T>
         ensures { result ≡ outcome }
     {
-        self.on.store(on.number(), Ordering::SeqCst);
+        self.on.set(on);
         store(&self.error, &outcome);
         outcome
     }
@@ -84,7 +65,7 @@ impl Notes {
 
     /// Notes for the reads of a file that is opened; `None` if too many files have them already.
     pub(crate) fn of_file(&self) -> Option<FileNotes> {
-        self.on.store(FailedOn::Name.number(), Ordering::SeqCst);
+        self.on.set(FailedOn::Name);
         let error = Arc::try_clone(&self.error).ok()?;
         Some(FileNotes { error })
     }
@@ -94,7 +75,7 @@ impl Notes {
         match self.error.load(Ordering::SeqCst) {
             0 => None,
             error => Some(DiskFailure {
-                on: FailedOn::of_number(self.on.load(Ordering::SeqCst)),
+                on: self.on.get(),
                 error: error.cast_signed(),
             }),
         }

@@ -1,7 +1,7 @@
 //! Folders of a disk, and so of the system. What a directory is stands in `dir_calls`.
 //!
 //! `DiskDir` is an honest directory if its disk keeps the clauses of `Disk`, which say what POSIX and Linux promise of
-//! each call. `MemDisk` keeps them, so they don't contradict one another. `OsDir`, which the tools use, is a `DiskDir`
+//! each call. `OsDir`, which the tools use, is a `DiskDir`
 //! over `SystemDisk`. Each method of `SystemDisk` is one call of the system, and only its safety is proved: that it
 //! keeps the clauses is the premise. Only tests show that one process at a time installs, that another folder at the
 //! path is refused, and which error is noted.
@@ -11,7 +11,6 @@ pub mod claims;
 pub mod disk;
 pub mod failure;
 pub mod lock;
-pub mod mem_disk;
 pub mod os_dir;
 pub mod os_file;
 mod patient;
@@ -22,7 +21,6 @@ pub use claims::{Alone, Claims};
 pub use disk::{Disk, DiskFile, Look};
 pub use failure::{DiskFailure, FailedOn};
 pub use lock::{Locked, Waits};
-pub use mem_disk::MemDisk;
 pub use os_dir::{DiskDir, FolderError, FolderFault, LockedDir, OsDir, find_folder};
 pub use os_file::OsFile;
 pub use system_disk::{ClaimedDisk, SystemDisk, SystemFile, SystemPath};

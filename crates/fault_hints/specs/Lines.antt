@@ -2,7 +2,7 @@
 use Rattle.std.specs.Prelude.{ℕ, ◌==◌, nat_eq, List, [], ◌∷◌, ◌++◌, drop, codes, if◌then◌else◌}
 use Rattle.std.specs.List.{starts_with, ends_with}
 use Rattle.byte_text.specs.Fields.{field_text}
-use Rattle.rule_lines.specs.Lines.{is_blank}
+use Rattle.rule_lookup.specs.Lines.{is_blank}
 use Rattle.rule_lines.specs.declared.fault.LineKind.{LineKind}
 use Rattle.rule_lines.specs.declared.fault.LineKind.TheVariants.{NoVerdict, BadSetting, BadRange, NotText, NulByte, LongLine, LongText}
 use Rattle.fault_hints.specs.declared.lines.TheConstants.{BEHIND, BLANK, LONG, LONG_TEXT, NUL, RANGE, RETURN, SETTINGS, TEXT, VERDICT}

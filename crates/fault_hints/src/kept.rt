@@ -1,7 +1,7 @@
 //! What was read of a text, so that a faulty line of it can be shown.
 ghost use Rattle.std.specs.Prelude.{◌≡◌};
 
-use rule_lines::lines::first_line;
+use rule_lookup::lines::first_line;
 use std::alloc::Global;
 use std::io::{Read, Result};
 

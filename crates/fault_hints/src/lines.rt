@@ -5,7 +5,7 @@ ghost use Rattle.fault_hints.specs.Lines.{behind_word, expected, line_text, name
 
 use byte_text::{push_marked, push_text, whole_or_none};
 use rule_lines::LineKind;
-use rule_lines::lines::is_blank;
+use rule_lookup::lines::is_blank;
 use std::alloc::AllocError;
 
 /// What is expected behind the first colon.

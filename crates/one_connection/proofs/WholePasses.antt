@@ -4,8 +4,8 @@ use Rattle.std.proofs.Common.{refl}
 use Rattle.std.proofs.Props.{props}
 use Rattle.std.specs.Prelude.{◌≡◌, ℕ, Bool, IsTrue, true, false, List, Option, None, Some, Result, Ok, Err, IfErr, option_map}
 use Rattle.cdb_files.specs.Reading.{reading}
-use Rattle.rule_lines.specs.Lookups.{WhereKnown}
-use Rattle.rule_lines.specs.declared.source.FindFault.TheVariants as find
+use Rattle.rule_lookup.specs.Lookups.{WhereKnown}
+use Rattle.rule_lookup.specs.declared.source.FindFault.TheVariants as find
 use Rattle.rule_lookup.specs.Decisions.{DecisionFails, decision_from, decision_in, without_file}
 use Rattle.rule_lookup.specs.Peers.{Client}
 use Rattle.rule_lookup.specs.declared.decision.Decision.{Decision}

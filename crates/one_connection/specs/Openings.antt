@@ -4,8 +4,8 @@ use Rattle.std.specs.declared.snapshot.Snapshot.{Snapshot}
 use Rattle.cdb_files.specs.Reading.{reading}
 use Rattle.dir_calls.specs.declared.fault.DirFault.{DirFault}
 use Rattle.dir_calls.specs.declared.fault.DirFault.TheVariants as directory
-use Rattle.rule_lines.specs.Lookups.{WhereKnown}
-use Rattle.rule_lines.specs.declared.source.FindFault.TheVariants as find
+use Rattle.rule_lookup.specs.Lookups.{WhereKnown}
+use Rattle.rule_lookup.specs.declared.source.FindFault.TheVariants as find
 use Rattle.rule_lookup.specs.Decisions.{DecisionFails, decision_from}
 use Rattle.rule_lookup.specs.Peers.{Client}
 use Rattle.rule_lookup.specs.declared.decision.Decision.{Decision}

@@ -1,6 +1,6 @@
 -- A connection of which no child was started yet.
 use Rattle.std.specs.Prelude.{◌≡◌, ◌≢◌, true, Some}
-use Rattle.rule_lines.specs.declared.instr.Verdict.TheVariants.{Deny}
+use Rattle.rule_lookup.specs.declared.instr.Verdict.TheVariants.{Deny}
 use Rattle.server_events.specs.ServerState.{is_unstarted}
 use Rattle.server_events.specs.declared.event.Stage.{Stage}
 use Rattle.server_events.specs.declared.event.Stage.TheVariants as stage

@@ -1,7 +1,7 @@
 //! The agent of a connection.
 ghost use Rattle.std.specs.Prelude.{◌≡◌, ℕ, Bool, Option, Some, true, false, is_some, IfOk, IfErr, OnOk, OnErr};
 ghost use Rattle.child_jobs.specs.Runs.{place_of};
-ghost use Rattle.rule_lines.specs.declared.instr.Verdict.TheVariants.{Allow};
+ghost use Rattle.rule_lookup.specs.declared.instr.Verdict.TheVariants.{Allow};
 ghost use Rattle.rule_lookup.specs.Peers.{Client};
 ghost use Rattle.rule_lookup.specs.declared.decision.WhenMissing.{WhenMissing as MissingFile};
 ghost use Rattle.server_events.specs.declared.event.Event.{Event as EventOf};

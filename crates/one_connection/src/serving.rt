@@ -1,7 +1,7 @@
 //! A connection from its admission to the start of its child.
 ghost use Rattle.std.specs.Prelude.{◌≡◌, ◌≢◌, ℕ, [], false, IfOk, IfErr, OnErr, is_err};
 ghost use Rattle.child_jobs.specs.Runs.{job_of, place_of};
-ghost use Rattle.rule_lines.specs.declared.instr.Verdict.TheVariants.{Allow, Deny};
+ghost use Rattle.rule_lookup.specs.declared.instr.Verdict.TheVariants.{Allow, Deny};
 ghost use Rattle.child_jobs.specs.declared.outcome.DropCause.TheVariants as cause;
 ghost use Rattle.server_events.specs.declared.event.Event.TheVariants.{Dropped, StartFailed};
 ghost use Rattle.server_events.specs.declared.event.Stage.TheVariants as stage;
@@ -14,8 +14,7 @@ use byte_streams::write_out;
 use child_jobs::{
     DropCause, Environment, Job, Launcher, Local, Place, Plan, Running, StartFault, build, start,
 };
-use rule_lines::{FindFault, Verdict};
-use rule_lookup::{DecideFault, Peer};
+use rule_lookup::{DecideFault, FindFault, Peer, Verdict};
 use server_yard::Assumptions;
 use std::alloc::Global;
 use std::io::Write;

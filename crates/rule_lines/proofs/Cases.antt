@@ -4,9 +4,9 @@ use Rattle.std.specs.Prelude.{codes}
 use Rattle.std.specs.Str.{is_utf8, chars}
 use Rattle.std.specs.Fmt.{digits}
 use lib.Utf8.{encode}
-use Rattle.rule_lines.specs.Pairs.{Rule, pairs_of}
+use Rattle.rule_lookup.specs.Pairs.{Rule, pairs_of}
 use Rattle.rule_lines.specs.Faults.{fault_of}
-use Rattle.rule_lines.specs.Codes.{code_of, decoded}
+use Rattle.rule_lookup.specs.Codes.{code_of, decoded}
 use Rattle.rule_lines.specs.declared.fault.LineKind.TheVariants.{NoVerdict, BadSetting, BadRange, NotText, LongLine, LongText}
 use Rattle.rule_lines.specs.declared.limits.Limits.{Limits}
 

@@ -8,14 +8,14 @@ use Rattle.std.proofs.lemmas.List.{take-append-drop}
 use Rattle.std.proofs.lemmas.List.Folds.{list_any-append}
 use Rattle.std.proofs.lemmas.Option.{none-some, same_Some}
 use Rattle.std.proofs.lemmas.Slice.Eq.{starts_is}
-use Rattle.rule_lines.specs.declared.instr.Instr.{Instr}
-use Rattle.rule_lines.specs.declared.instr.Verdict.{Verdict}
-use Rattle.rule_lines.specs.declared.instr.Verdict.TheVariants.{Allow, Deny}
-use Rattle.rule_lines.specs.Codes.{code_of, setting_code, verdict_code}
-use Rattle.rule_lines.specs.Lines.{has_byte}
-use Rattle.rule_lines.specs.Pairs.{instr_of, settings_after, verdict_of, word_length}
-use Rattle.rule_lines.specs.Settings.{Assignment, Front, first_character, value_at, setting_at, settings_within}
-use Rattle.rule_lines.proofs.CodeLemmas.{if_found, option_map_found, option_and_then_found}
+use Rattle.rule_lookup.specs.declared.instr.Instr.{Instr}
+use Rattle.rule_lookup.specs.declared.instr.Verdict.{Verdict}
+use Rattle.rule_lookup.specs.declared.instr.Verdict.TheVariants.{Allow, Deny}
+use Rattle.rule_lookup.specs.Codes.{code_of, setting_code, verdict_code}
+use Rattle.rule_lookup.specs.Lines.{has_byte}
+use Rattle.rule_lookup.specs.Pairs.{instr_of, settings_after, verdict_of, word_length}
+use Rattle.rule_lookup.specs.Settings.{Assignment, Front, first_character, value_at, setting_at, settings_within}
+use Rattle.rule_lookup.proofs.CodeLemmas.{if_found, option_map_found, option_and_then_found}
 use Rattle.rule_lines.proofs.CutLemmas.{cut_at-parts}
 use Rattle.rule_lines.proofs.ReadLemmas.{value_at-cut, setting_at-cut}
 use Rattle.rule_lines.proofs.SettingLemmas.{has_byte-parts}

@@ -9,9 +9,9 @@ use Rattle.std.proofs.lemmas.List.Prefix.{front_fits, front_reads, front_from_re
 use Rattle.std.proofs.lemmas.Option.{none-some, same_Some}
 use Rattle.std.proofs.lemmas.Slice.Eq.{starts_is}
 use Rattle.memchr.specs.Find.{Nowhere, OccursAt}
-use Rattle.rule_lines.specs.Lines.{has_byte}
-use Rattle.rule_lines.specs.Settings.{Cut, cut_at}
-use Rattle.rule_lines.proofs.CodeLemmas.{option_map_found}
+use Rattle.rule_lookup.specs.Lines.{has_byte}
+use Rattle.rule_lookup.specs.Settings.{Cut, cut_at}
+use Rattle.rule_lookup.proofs.CodeLemmas.{option_map_found}
 
 -- a mark at position 0 is what the bytes begin with
 starts_with-front : (mark bytes : List ℕ) → OccursAt bytes mark 0 → starts_with nat_eq bytes mark ≡ true

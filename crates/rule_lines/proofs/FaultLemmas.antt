@@ -12,19 +12,19 @@ use Rattle.rule_lines.specs.declared.fault.LineKind.{LineKind}
 use Rattle.rule_lines.specs.declared.fault.LineKind.TheVariants.{BadSetting, BadRange, NotText, NulByte, LongLine}
 use Rattle.rule_lines.specs.declared.fault.RuleFault.{RuleFault}
 use Rattle.rule_lines.specs.declared.fault.RuleFault.TheVariants.{Kind, OutOfMemory}
-use Rattle.rule_lines.specs.declared.instr.Instr.{Instr}
-use Rattle.rule_lines.specs.declared.instr.Verdict.{Verdict}
+use Rattle.rule_lookup.specs.declared.instr.Instr.{Instr}
+use Rattle.rule_lookup.specs.declared.instr.Verdict.{Verdict}
 use Rattle.rule_lines.specs.declared.spread.ReadAddress.{ReadAddress}
-use Rattle.rule_lines.specs.Codes.{code_of}
+use Rattle.rule_lookup.specs.Codes.{code_of}
 use Rattle.rule_lines.specs.Faults.{fault_beside, fault_under}
-use Rattle.rule_lines.specs.Lines.{has_byte}
-use Rattle.rule_lines.specs.Pairs.{Rule, address_in, instr_of, instructions_in, is_ignored, pairs_under, settings_after, verdict_of}
+use Rattle.rule_lookup.specs.Lines.{has_byte}
+use Rattle.rule_lookup.specs.Pairs.{Rule, address_in, instr_of, instructions_in, is_ignored, pairs_under, settings_after, verdict_of}
 use Rattle.rule_lines.specs.RuleFaults.{Names, fault_behind, fault_within}
-use Rattle.rule_lines.specs.Settings.{Assignment}
-use Rattle.rule_lines.specs.Spread.{is_bad_range, spread}
+use Rattle.rule_lookup.specs.Settings.{Assignment}
+use Rattle.rule_lookup.specs.Spread.{is_bad_range, spread}
 use Rattle.rule_lines.specs.ReadAddresses.{addresses_read}
-use Rattle.rule_lines.proofs.CodeLemmas.{option_map_found}
-use Rattle.rule_lines.proofs.FoundLemmas.{list_any-found, list_any-nowhere}
+use Rattle.rule_lookup.proofs.CodeLemmas.{option_map_found}
+use Rattle.rule_lookup.proofs.FoundLemmas.{list_any-found, list_any-nowhere}
 
 -- a list that reads as text is UTF-8, and one that does not is none
 pub is_utf8-read : {T E : Type 0} (bs : List ℕ) (P : T → Type 0) (Q : E → Type 0) (r : Result T E) → MatchResult r (λ s. P s × IsUtf8 bs) (λ e. ¬ (IsUtf8 bs) × Q e) → is_ok r ≡ is_utf8 bs

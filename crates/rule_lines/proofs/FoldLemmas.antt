@@ -4,7 +4,7 @@ use Rattle.std.specs.Char.{to_ascii_lowercase}
 use Rattle.std.specs.List.{position_or_len}
 use Rattle.std.proofs.Math.Seq.{take-append-add, drop-append-add}
 use Rattle.std.proofs.lemmas.List.{append-nil, length-map, length-take-le, take-append-drop, take_all, take_at, drop_all, drop_at}
-use Rattle.rule_lines.specs.Spread.{folded}
+use Rattle.rule_lookup.specs.Spread.{folded}
 use borrow.Rule.Slice.PartMut.{put_mid}
 
 -- putting letters into lower case leaves their number

@@ -6,20 +6,20 @@ use Rattle.std.proofs.lemmas.Bool.{cases_Bool, cond-false, or_from, or_right}
 use Rattle.std.proofs.lemmas.List.{append-nil, drop_all, take_rest}
 use Rattle.std.proofs.lemmas.List.Folds.{list_any-append}
 use Rattle.rule_lines.specs.declared.fault.LineKind.{LineKind}
-use Rattle.rule_lines.specs.declared.instr.Verdict.TheVariants.{Allow}
+use Rattle.rule_lookup.specs.declared.instr.Verdict.TheVariants.{Allow}
 use Rattle.rule_lines.specs.declared.kept.Tally.{Tally}
 use Rattle.rule_lines.specs.declared.spread.ReadAddress.{ReadAddress}
-use Rattle.rule_lines.specs.Codes.{code_of, decoded}
+use Rattle.rule_lookup.specs.Codes.{code_of, decoded}
 use Rattle.rule_lines.specs.Faults.{fault_beside, fault_in, first_faulty, or_later}
 use Rattle.rule_lines.specs.Kept.{AreKept, IsKept, IsKeptLine, IsKeptOf, Tallies, rules_at, rules_in, the_instr}
-use Rattle.rule_lines.specs.Lines.{IsCutAtFeed, IsFirstLine, Line, has_byte, is_blank, lines_of, trimmed}
-use Rattle.rule_lines.specs.Pairs.{address_in, instr_of, instructions_in, is_ignored, pairs_in, pairs_of, pairs_under, pairs_with, rule_pairs}
+use Rattle.rule_lookup.specs.Lines.{IsCutAtFeed, IsFirstLine, Line, has_byte, is_blank, lines_of, trimmed}
+use Rattle.rule_lookup.specs.Pairs.{address_in, instr_of, instructions_in, is_ignored, pairs_in, pairs_of, pairs_under, pairs_with, rule_pairs}
 use Rattle.rule_lines.specs.ReadAddresses.{addresses_read}
 use Rattle.rule_lines.specs.Rows.{length_with, stored_length}
 use Rattle.rule_lines.specs.RuleFaults.{IsPlain}
-use Rattle.rule_lines.specs.Spread.{is_bad_range, spread}
+use Rattle.rule_lookup.specs.Spread.{is_bad_range, spread}
 use Rattle.rule_lines.proofs.CodeBytes.{IsOneLine, IsOneLine-append, IsOneLine-drop, IsOneLine-take, code_of-read}
-use Rattle.rule_lines.proofs.CodeLemmas.{after_first-stop, around_first, before_first-stop, decoded-code_of, pieces_of-stop}
+use Rattle.rule_lookup.proofs.CodeLemmas.{after_first-stop, around_first, before_first-stop, decoded-code_of, pieces_of-stop}
 use Rattle.rule_lines.proofs.FaultLemmas.{IsReadLine, count-read, fault_beside-none}
 use Rattle.rule_lines.proofs.KeptLemmas.{AreKept-append, rules_in-append}
 use Rattle.rule_lines.proofs.PlainLemmas.{IsPlain-cut}

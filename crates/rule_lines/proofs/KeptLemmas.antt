@@ -8,7 +8,7 @@ use Rattle.std.proofs.lemmas.Option.{slice_get-get_or}
 use Rattle.rule_lines.specs.declared.kept.KeptLine.{KeptLine}
 use Rattle.rule_lines.specs.declared.kept.LinePosition.{LinePosition}
 use Rattle.rule_lines.specs.Kept.{AreKept, IsKeptLine, IsLineAt, rule_of_line, rules_at, rules_in, rules_under, the_instr}
-use Rattle.rule_lines.specs.Lines.{IsFirstLine, Line, empty_line, lines_of, onto_line}
+use Rattle.rule_lookup.specs.Lines.{IsFirstLine, Line, empty_line, lines_of, onto_line}
 use Rattle.rule_lines.specs.ReadAddresses.{addresses_read}
 use Rattle.rule_lines.proofs.RowLemmas.{rule_of}
 

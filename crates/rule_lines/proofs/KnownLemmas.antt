@@ -9,20 +9,20 @@ use Rattle.std.specs.Str.{is_utf8}
 use Rattle.rule_lines.specs.declared.fault.LineKind.{LineKind}
 use Rattle.rule_lines.specs.declared.fault.LineKind.TheVariants.{BadSetting, LongText}
 use Rattle.rule_lines.specs.declared.fault.LineFault.{LineFault}
-use Rattle.rule_lines.specs.declared.instr.Instr.{Instr}
-use Rattle.rule_lines.specs.declared.instr.Verdict.{Verdict}
-use Rattle.rule_lines.specs.declared.instr.Verdict.TheVariants.{Allow}
+use Rattle.rule_lookup.specs.declared.instr.Instr.{Instr}
+use Rattle.rule_lookup.specs.declared.instr.Verdict.{Verdict}
+use Rattle.rule_lookup.specs.declared.instr.Verdict.TheVariants.{Allow}
 use Rattle.rule_lines.specs.declared.limits.Limits.{Limits}
-use Rattle.rule_lines.specs.Codes.{IsInstr, decoded}
+use Rattle.rule_lookup.specs.Codes.{IsInstr, decoded}
 use Rattle.rule_lines.specs.Faults.{IsAccepted, fault_beside, fault_in, fault_under, first_faulty, or_later}
 use Rattle.rule_lines.specs.Kept.{AreKept, IsKeptLine, rules_at, rules_in, the_instr}
-use Rattle.rule_lines.specs.Lines.{Line, has_byte, lines_of, trimmed}
-use Rattle.rule_lines.specs.Pairs.{Rule, address_in, instr_of, instructions_in, is_ignored, pairs_in, pairs_of, pairs_under, pairs_with, settings_after, verdict_of}
-use Rattle.rule_lines.specs.Rows.{AreRules}
-use Rattle.rule_lines.specs.Settings.{is_setting}
-use Rattle.rule_lines.specs.Spread.{spread}
+use Rattle.rule_lookup.specs.Lines.{Line, has_byte, lines_of, trimmed}
+use Rattle.rule_lookup.specs.Pairs.{Rule, address_in, instr_of, instructions_in, is_ignored, pairs_in, pairs_of, pairs_under, pairs_with, settings_after, verdict_of}
+use Rattle.rule_lookup.specs.Codes.{AreRules}
+use Rattle.rule_lookup.specs.Settings.{is_setting}
+use Rattle.rule_lookup.specs.Spread.{spread}
 use Rattle.rule_lines.specs.Texts.{AcceptedText, AreOfText}
-use Rattle.rule_lines.proofs.CodeLemmas.{IsInstr-decoded}
+use Rattle.rule_lookup.proofs.CodeLemmas.{IsInstr-decoded}
 use Rattle.rule_lines.proofs.FaultLemmas.{fault_beside-none}
 use Rattle.rule_lines.proofs.SettingLemmas.{IsInstr-instr_of}
 

@@ -1,15 +1,11 @@
 pub mod Cases
 pub mod CodeBytes
-pub mod CodeLemmas
 pub mod CutLemmas
-pub mod DecodeLemmas
 pub mod FaultLemmas
 pub mod FoldLemmas
-pub mod FoundLemmas
 pub mod KnownLemmas
 pub mod KeepLemmas
 pub mod KeptLemmas
-pub mod LineLemmas
 pub mod NumberLemmas
 pub mod OpenLemmas
 pub mod ParseLemmas
@@ -18,5 +14,4 @@ pub mod RangeLemmas
 pub mod ReadLemmas
 pub mod RowLemmas
 pub mod SettingLemmas
-pub mod SplitLemmas
 pub mod TallyLemmas

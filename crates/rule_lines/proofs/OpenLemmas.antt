@@ -5,7 +5,7 @@ use Rattle.rule_lines.specs.declared.kept.FoundRule.{FoundRule}
 use Rattle.rule_lines.specs.declared.open_range.OpenRange.{OpenRange}
 use Rattle.rule_lines.specs.declared.spread.Numbers.{Numbers}
 use Rattle.rule_lines.specs.declared.spread.ReadAddress.TheVariants.{Range}
-use Rattle.rule_lines.specs.Codes.{decoded}
+use Rattle.rule_lookup.specs.Codes.{decoded}
 use Rattle.rule_lines.specs.Kept.{IsFound, IsOpenAmong, IsStored, rule_of_range, rules_in, the_instr}
 use Rattle.rule_lines.specs.ReadAddresses.{addresses_read}
 use Rattle.rule_lines.proofs.RowLemmas.{code_of-the_instr, get_or-range, length-addresses_under}

@@ -2,7 +2,7 @@
 use Rattle.std.proofs.Common.{◌≡◌, ℕ, ◌+◌, ◌≤◌, ◌<◌, Bool, true, None, Some, List, length, refl, sym, ap, ◌∙◌, arith}
 use Rattle.rule_lines.specs.declared.fault.LineKind.{LineKind}
 use Rattle.rule_lines.specs.Faults.{fault_in, first_faulty, or_later}
-use Rattle.rule_lines.specs.Lines.{IsCutAtFeed, IsFirstLine, lines_of, trimmed}
+use Rattle.rule_lookup.specs.Lines.{IsCutAtFeed, IsFirstLine, lines_of, trimmed}
 use Rattle.rule_lines.specs.RuleFaults.{IsPlain}
 use Rattle.rule_lines.proofs.PlainLemmas.{IsPlain-cut, IsPlain-trimmed}
 

@@ -2,7 +2,7 @@
 use Rattle.std.proofs.Common.{◌≡◌, ◌⊎◌, ℕ, ◌<◌, true, cond, eqb, ◌&&◌, List, [], ◌∷◌, ◌++◌, length, refl, sym, ap, subst, arith, inl, inr}
 use Rattle.std.proofs.lemmas.Bool.{and_parts, cases_Bool, eqb-true, or_cases}
 use Rattle.std.proofs.lemmas.Str.{IsUtf8-from_is_utf8, IsUtf8-nil, is_utf8-from_IsUtf8}
-use Rattle.rule_lines.specs.Lines.{IsCutAtFeed, is_blank, trimmed}
+use Rattle.rule_lookup.specs.Lines.{IsCutAtFeed, is_blank, trimmed}
 use Rattle.rule_lines.specs.RuleFaults.{IsPlain}
 use Rattle.rule_lines.proofs.SettingLemmas.{IsClean, IsClean-around}
 

@@ -10,10 +10,10 @@ use Rattle.std.proofs.lemmas.List.{at_drop_more, at_drop_all, take_rest}
 use Rattle.std.proofs.lemmas.List.Folds.{length-prefix_len}
 use Rattle.memchr.specs.Find.{IsFirstByte, NoneBefore, Nowhere, Passes, is_byte, is_byte2}
 use Rattle.rule_lines.specs.declared.spread.ReadAddress.{ReadAddress}
-use Rattle.rule_lines.specs.Lines.{has_byte}
-use Rattle.rule_lines.specs.Spread.{Range, is_range, is_number, is_bad_range, range_of, addresses_of, folded, spread}
+use Rattle.rule_lookup.specs.Lines.{has_byte}
+use Rattle.rule_lookup.specs.Spread.{Range, is_range, is_number, is_bad_range, range_of, addresses_of, folded, spread}
 use Rattle.rule_lines.specs.ReadAddresses.{addresses_read}
-use Rattle.rule_lines.proofs.FoundLemmas.{list_any-found, list_any-nowhere}
+use Rattle.rule_lookup.proofs.FoundLemmas.{list_any-found, list_any-nowhere}
 
 -- the first i bytes of a part are digits with the value n
 pub record IsReadTo (part : List ℕ) (i n : ℕ) : Type 0 where

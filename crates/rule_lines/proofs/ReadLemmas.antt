@@ -3,10 +3,10 @@ use Rattle.std.proofs.Common.{◌≡◌, ℕ, zero, suc, ◌<◌, ◌≤◌, Boo
 use Rattle.std.specs.Prelude.{◌==◌, option_map, option_and_then, if◌then◌else◌}
 use Rattle.std.proofs.lemmas.Bool.{cond-false, ne_eqb}
 use Rattle.std.proofs.lemmas.Option.{none-some}
-use Rattle.rule_lines.specs.Codes.{setting_code}
-use Rattle.rule_lines.specs.Lines.{has_byte}
-use Rattle.rule_lines.specs.Settings.{Assignment, Cut, Front, cut_at, first_character, value_at, setting_at, settings_within, settings_of}
-use Rattle.rule_lines.proofs.CodeLemmas.{option_map_found, option_and_then_found}
+use Rattle.rule_lookup.specs.Codes.{setting_code}
+use Rattle.rule_lookup.specs.Lines.{has_byte}
+use Rattle.rule_lookup.specs.Settings.{Assignment, Cut, Front, cut_at, first_character, value_at, setting_at, settings_within, settings_of}
+use Rattle.rule_lookup.proofs.CodeLemmas.{option_map_found, option_and_then_found}
 use Rattle.rule_lines.proofs.CutLemmas.{cut_at-parts, cut_at-byte, cut_at-no_byte}
 
 -- a name behind which a value is to be read

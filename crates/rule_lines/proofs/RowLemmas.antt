@@ -5,18 +5,18 @@ use Rattle.std.specs.List.{find, Contains}
 use Rattle.std.proofs.lemmas.Bool.{cases_Bool}
 use Rattle.std.proofs.lemmas.List.FromFn.{length-map-range_with_len, get_or-map-range_with_len}
 use Rattle.std.proofs.lemmas.Slice.Eq.{bytes_eq-Decides}
-use Rattle.rule_lines.specs.declared.instr.Instr.{Instr}
-use Rattle.rule_lines.specs.declared.instr.Verdict.TheVariants.{Allow}
+use Rattle.rule_lookup.specs.declared.instr.Instr.{Instr}
+use Rattle.rule_lookup.specs.declared.instr.Verdict.TheVariants.{Allow}
 use Rattle.rule_lines.specs.declared.spread.Numbers.{Numbers}
 use Rattle.rule_lines.specs.declared.spread.ReadAddress.{ReadAddress}
 use Rattle.rule_lines.specs.declared.spread.ReadAddress.TheVariants.{Range}
-use Rattle.rule_lines.specs.Codes.{IsCode, code_of, decoded}
+use Rattle.rule_lookup.specs.Codes.{IsCode, code_of, decoded}
 use Rattle.rule_lines.specs.Kept.{the_instr}
-use Rattle.rule_lines.specs.Lookups.{Finding, Has, code_under, found_among}
-use Rattle.rule_lines.specs.Pairs.{Rule, pairs_with}
+use Rattle.rule_lookup.specs.Lookups.{Finding, Has, code_under, found_among}
+use Rattle.rule_lookup.specs.Pairs.{Rule, pairs_with}
 use Rattle.rule_lines.specs.ReadAddresses.{addresses_read}
 use Rattle.rule_lines.specs.Rows.{addresses_under}
-use Rattle.rule_lines.proofs.CodeLemmas.{IsInstr-decoded, code_of-decoded}
+use Rattle.rule_lookup.proofs.CodeLemmas.{IsInstr-decoded, code_of-decoded}
 
 -- a range has as many addresses as numbers
 pub length-addresses_under : (front : List ℕ) (numbers : Numbers) (back : List ℕ) → length (addresses_under front numbers back) ≡ numbers.count

@@ -12,14 +12,14 @@ use Rattle.std.proofs.lemmas.Option.{none-some, same_Some}
 use Rattle.std.proofs.lemmas.Slice.Eq.{starts_is}
 use Rattle.std.proofs.lemmas.Str.{IsUtf8-take, IsUtf8-drop, IsUtf8-past_char, IsCharBoundary-before_ascii, IsCharBoundary-after_ascii, is_utf8-from_IsUtf8, IsUtf8-from_is_utf8}
 use lib.Utf8.{encode, encodes}
-use Rattle.rule_lines.specs.declared.instr.Instr.{Instr}
-use Rattle.rule_lines.specs.declared.instr.Verdict.{Verdict}
-use Rattle.rule_lines.specs.declared.instr.Verdict.TheVariants.{Allow, Deny}
-use Rattle.rule_lines.specs.Codes.{IsInstr}
-use Rattle.rule_lines.specs.Lines.{has_byte}
-use Rattle.rule_lines.specs.Pairs.{instr_of, instructions_in, address_in, verdict_of, word_length, settings_after}
-use Rattle.rule_lines.specs.Settings.{Assignment, AreSettings, is_setting, is_name, is_value, Front, cut_at, first_character, value_at, setting_at, settings_within}
-use Rattle.rule_lines.proofs.CodeLemmas.{around_first, if_found, option_map_found, option_and_then_found}
+use Rattle.rule_lookup.specs.declared.instr.Instr.{Instr}
+use Rattle.rule_lookup.specs.declared.instr.Verdict.{Verdict}
+use Rattle.rule_lookup.specs.declared.instr.Verdict.TheVariants.{Allow, Deny}
+use Rattle.rule_lookup.specs.Codes.{IsInstr}
+use Rattle.rule_lookup.specs.Lines.{has_byte}
+use Rattle.rule_lookup.specs.Pairs.{instr_of, instructions_in, address_in, verdict_of, word_length, settings_after}
+use Rattle.rule_lookup.specs.Settings.{Assignment, AreSettings, is_setting, is_name, is_value, Front, cut_at, first_character, value_at, setting_at, settings_within}
+use Rattle.rule_lookup.proofs.CodeLemmas.{around_first, if_found, option_map_found, option_and_then_found}
 use Rattle.rule_lines.proofs.CutLemmas.{cut_at-parts, cut_at-before}
 use Rattle.rule_lines.proofs.ReadLemmas.{value_at-cut, setting_at-cut}
 

@@ -2,12 +2,12 @@
 use Rattle.std.proofs.Common.{◌≡◌, ℕ, ◌+◌, ◌<◌, Option, None, Some, List, [], ◌∷◌, ◌++◌, length, take, decimal, refl, sym, ap, ◌∙◌, subst, arith, length-append}
 use Rattle.std.specs.Option.{IfSome}
 use Rattle.std.proofs.lemmas.List.Sums.{sum_by-append, sum_by-cons, sum_by_more}
-use Rattle.rule_lines.specs.declared.instr.Instr.{Instr}
+use Rattle.rule_lookup.specs.declared.instr.Instr.{Instr}
 use Rattle.rule_lines.specs.declared.kept.Tally.{Tally}
 use Rattle.rule_lines.specs.declared.spread.Numbers.{Numbers}
-use Rattle.rule_lines.specs.Codes.{code_of}
+use Rattle.rule_lookup.specs.Codes.{code_of}
 use Rattle.rule_lines.specs.Kept.{Tallies}
-use Rattle.rule_lines.specs.Pairs.{Rule, pairs_with}
+use Rattle.rule_lookup.specs.Pairs.{Rule, pairs_with}
 use Rattle.rule_lines.specs.Rows.{addresses_under, length_with, rule_length, stored_length}
 use Rattle.rule_lines.proofs.RowLemmas.{get_or-addresses_under, length-addresses_under, rule_of}
 

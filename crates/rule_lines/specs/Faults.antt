@@ -7,10 +7,10 @@ use Rattle.rule_lines.specs.declared.fault.LineFault.{LineFault}
 use Rattle.rule_lines.specs.declared.fault.ParseFault.{ParseFault}
 use Rattle.rule_lines.specs.declared.fault.ParseFault.TheVariants.{Line as AtLine, OutOfMemory}
 use Rattle.rule_lines.specs.declared.limits.Limits.{Limits}
-use Rattle.rule_lines.specs.declared.instr.Verdict.{Verdict}
-use Rattle.rule_lines.specs.Lines.{Line, lines_of, trimmed, has_byte}
-use Rattle.rule_lines.specs.Pairs.{is_ignored, address_in, instructions_in, verdict_of, settings_after}
-use Rattle.rule_lines.specs.Spread.{is_bad_range}
+use Rattle.rule_lookup.specs.declared.instr.Verdict.{Verdict}
+use Rattle.rule_lookup.specs.Lines.{Line, lines_of, trimmed, has_byte}
+use Rattle.rule_lookup.specs.Pairs.{is_ignored, address_in, instructions_in, verdict_of, settings_after}
+use Rattle.rule_lookup.specs.Spread.{is_bad_range}
 
 -- what is wrong with a line whose instructions can be read: the kinds from the third on
 abbrev pub fault_beside : ℕ → List ℕ → Option LineKind

@@ -1,19 +1,19 @@
 -- The lines that a list keeps, one for each rule line of its text: the address as it stands there, a colon, and the code of the instruction.
 use Rattle.std.specs.Prelude.{◌≡◌, ℕ, ◌+◌, ◌-◌, ◌<◌, ◌≤◌, Bool, true, false, is_some, List, [], ◌++◌, length, drop, get_or, slice_get, decimal, Option, Some, None, unwrap_or, flat_map}
 use Rattle.std.specs.List.{AllByRecursion}
-use Rattle.rule_lines.specs.declared.instr.Instr.{Instr}
-use Rattle.rule_lines.specs.declared.instr.Verdict.TheVariants.{Allow}
+use Rattle.rule_lookup.specs.declared.instr.Instr.{Instr}
+use Rattle.rule_lookup.specs.declared.instr.Verdict.TheVariants.{Allow}
 use Rattle.rule_lines.specs.declared.kept.FoundRule.{FoundRule}
 use Rattle.rule_lines.specs.declared.kept.KeptLine.{KeptLine}
 use Rattle.rule_lines.specs.declared.kept.LinePosition.{LinePosition}
 use Rattle.rule_lines.specs.declared.kept.Tally.{Tally}
 use Rattle.rule_lines.specs.declared.open_range.OpenRange.{OpenRange}
-use Rattle.rule_lines.specs.Codes.{code_of, decoded}
-use Rattle.rule_lines.specs.Lines.{Line, has_byte, lines_of}
-use Rattle.rule_lines.specs.Pairs.{Rule, address_in, instructions_in, pairs_in, pairs_of, pairs_with}
+use Rattle.rule_lookup.specs.Codes.{code_of, decoded}
+use Rattle.rule_lookup.specs.Lines.{Line, has_byte, lines_of}
+use Rattle.rule_lookup.specs.Pairs.{Rule, address_in, instructions_in, pairs_in, pairs_of, pairs_with}
 use Rattle.rule_lines.specs.ReadAddresses.{addresses_read}
 use Rattle.rule_lines.specs.Rows.{stored_length}
-use Rattle.rule_lines.specs.Spread.{is_bad_range, spread}
+use Rattle.rule_lookup.specs.Spread.{is_bad_range, spread}
 use Rattle.rule_lines.specs.Texts.{AreOfText}
 
 -- the instruction of a code

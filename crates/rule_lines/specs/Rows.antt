@@ -1,17 +1,13 @@
--- The addresses of a range, rules whose instructions may be, and how long rules are where they are stored.
+-- The addresses of a range, and how long rules are where they are stored.
 use Rattle.std.specs.Prelude.{ℕ, ◌+◌, List, ◌++◌, length, map, decimal}
-use Rattle.std.specs.List.{AllByRecursion, range_with_len, sum_by}
+use Rattle.std.specs.List.{range_with_len, sum_by}
 use Rattle.rule_lines.specs.declared.spread.Numbers.{Numbers}
-use Rattle.rule_lines.specs.Codes.{IsInstr, code_of}
-use Rattle.rule_lines.specs.Pairs.{Rule}
+use Rattle.rule_lookup.specs.Codes.{code_of}
+use Rattle.rule_lookup.specs.Pairs.{Rule}
 
 -- an address for each number, between two parts
 abbrev pub addresses_under : List ℕ → Numbers → List ℕ → List (List ℕ)
 addresses_under front numbers back = map (λ n. front ++ decimal n ++ back) (range_with_len numbers.first numbers.count)
-
--- each rule has an instruction that may be
-abbrev pub AreRules : List Rule → Type 0
-AreRules rules = AllByRecursion (λ (rule : Rule). IsInstr rule.instr) rules
 
 -- how many bytes a rule has where it is stored: its address, and the code of its instruction
 abbrev pub rule_length : Rule → ℕ

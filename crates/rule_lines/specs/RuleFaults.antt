@@ -7,10 +7,10 @@ use Rattle.rule_lines.specs.declared.fault.RuleFault.{RuleFault}
 use Rattle.rule_lines.specs.declared.fault.ParseFault.{ParseFault}
 use Rattle.rule_lines.specs.declared.fault.ParseFault.TheVariants.{Line as AtLine, OutOfMemory as NoMemory}
 use Rattle.rule_lines.specs.declared.fault.RuleFault.TheVariants.{Kind, OutOfMemory}
-use Rattle.rule_lines.specs.declared.instr.Verdict.{Verdict}
+use Rattle.rule_lookup.specs.declared.instr.Verdict.{Verdict}
 use Rattle.rule_lines.specs.Faults.{first_faulty}
-use Rattle.rule_lines.specs.Lines.{has_byte, lines_of}
-use Rattle.rule_lines.specs.Pairs.{settings_after, verdict_of}
+use Rattle.rule_lookup.specs.Lines.{has_byte, lines_of}
+use Rattle.rule_lookup.specs.Pairs.{settings_after, verdict_of}
 
 -- text without a zero byte
 abbrev pub IsPlain : List ℕ → Type 0

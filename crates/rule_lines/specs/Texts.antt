@@ -2,7 +2,7 @@
 use Rattle.std.specs.Prelude.{◌≡◌, ℕ, List}
 use Rattle.rule_lines.specs.declared.limits.Limits.{Limits}
 use Rattle.rule_lines.specs.Faults.{IsAccepted}
-use Rattle.rule_lines.specs.Pairs.{Rule, pairs_of}
+use Rattle.rule_lookup.specs.Pairs.{Rule, pairs_of}
 
 -- a text that is accepted within some limits, and says these rules
 pub record AcceptedText (rules : List Rule) : Type 0 where

@@ -1,15 +1,15 @@
 //! The instructions of a rule line, read into their code.
 ghost use Rattle.std.specs.Prelude.{◌≡◌, ◌++◌, ◌<◌, ◌≤◌, ℕ, suc, List, Some, Err, if◌then◌else◌, option_map, IfErr, IfSome, MatchOption, OnOk, flat_map, length, drop};
 ghost use Rattle.std.specs.Str.{continuation_len};
-ghost use Rattle.rule_lines.specs.Codes.{code_of, setting_code};
-ghost use Rattle.rule_lines.specs.Pairs.{instr_of, verdict_of, word_length};
+ghost use Rattle.rule_lookup.specs.Codes.{code_of, setting_code};
+ghost use Rattle.rule_lookup.specs.Pairs.{instr_of, verdict_of, word_length};
 ghost use Rattle.rule_lines.specs.RuleFaults.{Names, fault_within};
-ghost use Rattle.rule_lines.specs.Settings.{cut_at, first_character, front_of, value_at, setting_at, settings_of};
+ghost use Rattle.rule_lookup.specs.Settings.{cut_at, first_character, front_of, value_at, setting_at, settings_of};
 
-use crate::code::{append_setting, append_verdict, split_at_byte};
 use crate::fault::{LineKind, RuleFault};
-use crate::instr::Verdict;
 use memchr::memmem;
+use rule_lookup::code::{append_setting, append_verdict};
+use rule_lookup::{Verdict, split_at_byte};
 
 /// The word of the verdict that allows.
 const ALLOW_WORD: &[u8] = b"allow";

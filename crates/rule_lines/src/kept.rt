@@ -1,14 +1,14 @@
 //! The lines that a list keeps: an address, a colon, and the code of the instruction.
 ghost use Rattle.std.specs.Prelude.{◌≡◌, ◌++◌, ◌+◌, ◌-◌, ◌<◌, ◌≤◌, ◌^◌, ℕ, List, None, true, drop, is_some, length, slice_get, IfSome, MatchOption};
-ghost use Rattle.rule_lines.specs.Codes.{decoded};
+ghost use Rattle.rule_lookup.specs.Codes.{decoded};
 ghost use Rattle.rule_lines.specs.Kept.{AreKept, IsFound, IsKeptLine, IsLineAt, rules_at, rules_in, rules_under};
 ghost use Rattle.rule_lines.specs.ReadAddresses.{addresses_read};
 ghost use Rattle.rule_lines.specs.Rows.{addresses_under, length_with};
 
-use crate::lines::first_line;
 use crate::spread::{Numbers, ReadAddress, number_at, read_address};
 use itoa::Buffer;
 use memchr::memchr;
+use rule_lookup::lines::first_line;
 
 /// A kept line, read: its addresses, and the code of its instruction.
 #[derive(Clone, Copy)]

@@ -3,22 +3,21 @@ ghost use Rattle.std.specs.Prelude.{◌≡◌, ◌≢◌, ◌↔◌, ◌++◌, �
 ghost use Rattle.std.specs.Char.{to_ascii_lowercase};
 ghost use Rattle.std.specs.List.{Contains};
 ghost use Rattle.byte_text.specs.Outcomes.{AppendsPart};
-ghost use Rattle.rule_lines.specs.Codes.{code_of};
+ghost use Rattle.rule_lookup.specs.Codes.{AreRules, code_of};
 ghost use Rattle.rule_lines.specs.Kept.{AreKept, IsStored, Tallies, rules_in};
-ghost use Rattle.rule_lines.specs.Lookups.{found_among, code_found};
-ghost use Rattle.rule_lines.specs.Rows.{AreRules, addresses_under, stored_length};
-ghost use Rattle.rule_lines.specs.Spread.{folded};
+ghost use Rattle.rule_lookup.specs.Lookups.{found_among, code_found};
+ghost use Rattle.rule_lines.specs.Rows.{addresses_under, stored_length};
+ghost use Rattle.rule_lookup.specs.Spread.{folded};
 ghost use Rattle.rule_lines.specs.Texts.{AreOfText};
 ghost use Rattle.rule_lines.specs.ReadAddresses.{addresses_read};
 
-use crate::code::{DecodeFault, decode_instr};
-use crate::instr::Instr;
 use crate::kept::{KeptLine, LinePosition, Tally, first_kept, rule_at};
 use crate::open_range::{OpenRange, append_numbered};
 use crate::spread::{Numbers, ReadAddress, number_at};
 use byte_text::whole_or_none;
 use itoa::Buffer;
 use memchr::memchr;
+use rule_lookup::{DecodeFault, Instr, decode_instr};
 use std::alloc::{AllocError, Global};
 use std::marker::Model;
 use std::str;
@@ -37,7 +36,7 @@ pub struct RuleList {
 
 impl Model for RuleList {
     ghost use Rattle.std.specs.Prelude.{List};
-    ghost use Rattle.rule_lines.specs.Pairs.{Rule};
+    ghost use Rattle.rule_lookup.specs.Pairs.{Rule};
 
     ghost Value = { List Rule };
 
@@ -57,12 +56,12 @@ pub struct Pair<'a> {
 }
 
 impl<'a> Model for Pair<'a> {
-    ghost use Rattle.rule_lines.specs.Pairs.{Rule};
+    ghost use Rattle.rule_lookup.specs.Pairs.{Rule};
 
     ghost Value = { Rule };
 
     ghost use Rattle.std.specs.Prelude.{◌≡◌, ◌<◌, is_some, length, true};
-    ghost use Rattle.rule_lines.specs.Codes.{decoded};
+    ghost use Rattle.rule_lookup.specs.Codes.{decoded};
     ghost use Rattle.rule_lines.specs.Kept.{rule_of_line};
     ghost use Rattle.rule_lines.specs.ReadAddresses.{addresses_read};
 

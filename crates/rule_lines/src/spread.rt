@@ -2,7 +2,7 @@
 ghost use Rattle.std.specs.Prelude.{◌≡◌, ◌<◌, ◌≤◌, ◌+◌, ◌-◌, ◌&&◌, ◌==◌, min, not, length, MatchOption, true, false};
 ghost use Rattle.std.specs.List.{position_or_len, suffix_len, range_with_len};
 ghost use Rattle.std.specs.Str.Parse.{digits_value};
-ghost use Rattle.rule_lines.specs.Spread.{addresses_of, is_bad_range, is_number, range_of, spread};
+ghost use Rattle.rule_lookup.specs.Spread.{addresses_of, is_bad_range, is_number, range_of, spread};
 ghost use Rattle.rule_lines.specs.ReadAddresses.{addresses_read};
 
 use memchr::{memchr, memchr2, memrchr};

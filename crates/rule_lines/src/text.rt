@@ -4,19 +4,19 @@ ghost use Rattle.std.specs.List.{position_or_len};
 ghost use Rattle.std.specs.Str.{is_utf8};
 ghost use Rattle.rule_lines.specs.Faults.{fault_beside, fault_in, fault_under, first_faulty, IsAccepted, Refuses};
 ghost use Rattle.rule_lines.specs.Kept.{IsKept, IsKeptOf};
-ghost use Rattle.rule_lines.specs.Lines.{has_byte, lines_of};
-ghost use Rattle.rule_lines.specs.Pairs.{address_in, instructions_in, is_ignored, pairs_of, verdict_of};
+ghost use Rattle.rule_lookup.specs.Lines.{has_byte, lines_of};
+ghost use Rattle.rule_lookup.specs.Pairs.{address_in, instructions_in, is_ignored, pairs_of, verdict_of};
 ghost use Rattle.rule_lines.specs.RuleFaults.{IsPlain, Names, RefusesLines};
-ghost use Rattle.rule_lines.specs.Spread.{is_bad_range};
+ghost use Rattle.rule_lookup.specs.Spread.{is_bad_range};
 
 use crate::fault::{LineFault, LineKind, ParseFault, RuleFault};
 use crate::instructions::append_code;
 use crate::kept::{Tally, tally_of};
 use crate::limits::Limits;
-use crate::lines::{first_line, trim_blanks};
 use crate::list::RuleList;
 use crate::spread::read_address;
 use memchr::memchr;
+use rule_lookup::lines::{first_line, trim_blanks};
 use std::alloc::{AllocError, Global};
 use std::str;
 

@@ -4,11 +4,11 @@ use Rattle.std.specs.Prelude.{codes}
 use Rattle.std.specs.Str.{is_utf8, chars}
 use Rattle.std.specs.Fmt.{digits}
 use lib.Utf8.{encode}
-use Rattle.rule_lines.specs.declared.code.CodeFault.TheVariants.{NotCode}
-use Rattle.rule_lines.specs.declared.instr.Verdict.{Verdict}
-use Rattle.rule_lines.specs.declared.instr.Verdict.TheVariants.{Allow, Deny}
-use Rattle.rule_lines.specs.declared.source.FindFault.TheVariants.{Short}
-use Rattle.rule_lines.specs.Lookups.{Has, Absent, Broken}
+use Rattle.rule_lookup.specs.declared.code.CodeFault.TheVariants.{NotCode}
+use Rattle.rule_lookup.specs.declared.instr.Verdict.{Verdict}
+use Rattle.rule_lookup.specs.declared.instr.Verdict.TheVariants.{Allow, Deny}
+use Rattle.rule_lookup.specs.declared.source.FindFault.TheVariants.{Short}
+use Rattle.rule_lookup.specs.Lookups.{Has, Absent, Broken}
 use Rattle.rule_lookup.specs.declared.decision.Decision.{Decision}
 use Rattle.rule_lookup.specs.declared.decision.DecideFault.TheVariants.{Find, Code}
 use Rattle.rule_lookup.specs.declared.decision.Found.TheVariants as found

@@ -1,12 +1,12 @@
 -- Bytes that are no code have no instruction.
 use Rattle.std.proofs.Common.{◌≡◌, ℕ, List, Option, Some, None, refl, ap, ◌∙◌}
-use Rattle.rule_lines.proofs.CodeLemmas.{code_of-decoded, IsInstr-decoded}
-use Rattle.rule_lines.specs.declared.instr.Instr.{Instr}
-use Rattle.rule_lines.specs.Codes.{decoded, IsCode, RefusesCode}
-use Rattle.rule_lines.specs.Lookups.{Finding, Has, Trust, WhereKnown}
-use Rattle.rule_lines.specs.declared.code.CodeFault.TheVariants.{NotCode}
-use Rattle.rule_lines.specs.declared.code.DecodeFault.{DecodeFault}
-use Rattle.rule_lines.specs.declared.code.DecodeFault.TheVariants.{Code as NoCode, OutOfMemory as NoMemoryToDecode}
+use Rattle.rule_lookup.proofs.CodeLemmas.{code_of-decoded, IsInstr-decoded}
+use Rattle.rule_lookup.specs.declared.instr.Instr.{Instr}
+use Rattle.rule_lookup.specs.Codes.{decoded, IsCode, RefusesCode}
+use Rattle.rule_lookup.specs.Lookups.{Finding, Has, Trust, WhereKnown}
+use Rattle.rule_lookup.specs.declared.code.CodeFault.TheVariants.{NotCode}
+use Rattle.rule_lookup.specs.declared.code.DecodeFault.{DecodeFault}
+use Rattle.rule_lookup.specs.declared.code.DecodeFault.TheVariants.{Code as NoCode, OutOfMemory as NoMemoryToDecode}
 use Rattle.rule_lookup.specs.Decisions.{LookupFails, instr_by, instr_in, of_code}
 use Rattle.rule_lookup.proofs.DecisionLemmas.{WhereKnown-map}
 

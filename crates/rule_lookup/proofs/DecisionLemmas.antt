@@ -3,13 +3,13 @@ use Rattle.std.proofs.Common.{◌≡◌, ◌≢◌, ℕ, suc, ◌+◌, ◌<◌, 
 use Rattle.std.specs.List.{Any}
 use Rattle.std.proofs.lemmas.List.{at_drop_all, at_drop_more, length-map, get_or-map}
 use Rattle.std.specs.declared.alloc.Global.{Global}
-use Rattle.rule_lines.specs.declared.source.FindFault.TheVariants.{Short, Device, OutOfMemory as NoMemoryToFind}
-use Rattle.rule_lines.specs.Codes.{decoded}
-use Rattle.rule_lines.specs.Lookups.{Finding, Has, Absent, Broken, Trust, Unknown, Honest, Sound, WhereKnown}
+use Rattle.rule_lookup.specs.declared.source.FindFault.TheVariants.{Short, Device, OutOfMemory as NoMemoryToFind}
+use Rattle.rule_lookup.specs.Codes.{decoded}
+use Rattle.rule_lookup.specs.Lookups.{Finding, Has, Absent, Broken, Trust, Unknown, Honest, Sound, WhereKnown}
 use Rattle.rule_lookup.specs.declared.decision.Decision.{Decision}
 use Rattle.rule_lookup.specs.declared.decision.DecideFault.{DecideFault}
 use Rattle.rule_lookup.specs.declared.decision.DecideFault.TheVariants.{Find, Code, OutOfMemory}
-use Rattle.rule_lines.specs.declared.instr.Instr.{Instr}
+use Rattle.rule_lookup.specs.declared.instr.Instr.{Instr}
 use Rattle.rule_lookup.specs.Decisions.{asked, by_default, by_rule, is_there, by_first, by_finding, by_code, instr_by, instr_in, DecisionFails, LookupFails}
 
 -- what follows from a fact is known where the fact is

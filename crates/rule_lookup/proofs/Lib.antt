@@ -1,3 +1,8 @@
+pub mod FoundLemmas
+pub mod LineLemmas
+pub mod CodeLemmas
+pub mod DecodeLemmas
+pub mod SplitLemmas
 pub mod AddressLemmas
 pub mod Cases
 pub mod CodeFaults

@@ -1,11 +1,11 @@
 -- A decision over a list of rules.
 use Rattle.std.proofs.Common.{◌≡◌, ℕ, Bool, true, false, cond, List, [], ◌∷◌, Option, Some, None, Ok, find, refl, ap, ◌∙◌}
 use Rattle.std.specs.Prelude.{is_some}
-use Rattle.rule_lines.proofs.CodeLemmas.{decoded-code_of}
-use Rattle.rule_lines.specs.Codes.{IsInstr}
-use Rattle.rule_lines.specs.Lookups.{code_under, found_among}
-use Rattle.rule_lines.specs.Pairs.{Rule}
-use Rattle.rule_lines.specs.Rows.{AreRules}
+use Rattle.rule_lookup.proofs.CodeLemmas.{decoded-code_of}
+use Rattle.rule_lookup.specs.Codes.{IsInstr}
+use Rattle.rule_lookup.specs.Lookups.{code_under, found_among}
+use Rattle.rule_lookup.specs.Pairs.{Rule}
+use Rattle.rule_lookup.specs.Codes.{AreRules}
 use Rattle.rule_lookup.specs.Decisions.{is_there, is_for, rule_for, by_first, by_first_listed, by_finding, by_rule_found, by_code, decision_by, decision_in}
 use Rattle.rule_lookup.specs.Forms.{forms_of}
 use Rattle.rule_lookup.specs.Peers.{Client}

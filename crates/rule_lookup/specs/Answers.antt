@@ -1,8 +1,8 @@
 -- The lines that tell a decision.
 use Rattle.std.specs.Prelude.{ℕ, List, ◌++◌, codes, flat_map}
-use Rattle.rule_lines.specs.declared.instr.Verdict.{Verdict}
-use Rattle.rule_lines.specs.declared.instr.Verdict.TheVariants.{Allow, Deny}
-use Rattle.rule_lines.specs.Settings.{Assignment}
+use Rattle.rule_lookup.specs.declared.instr.Verdict.{Verdict}
+use Rattle.rule_lookup.specs.declared.instr.Verdict.TheVariants.{Allow, Deny}
+use Rattle.rule_lookup.specs.Settings.{Assignment}
 use Rattle.rule_lookup.specs.declared.decision.Decision.{Decision}
 use Rattle.rule_lookup.specs.declared.decision.Found.{Found}
 use Rattle.rule_lookup.specs.declared.decision.Found.TheVariants.{Address, Default, NoFile}

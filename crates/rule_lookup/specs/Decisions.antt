@@ -1,17 +1,17 @@
 -- Which rule decides a peer.
 use Rattle.std.specs.Prelude.{◌≡◌, ◌≢◌, ℕ, Bool, true, false, is_some, List, [], ◌∷◌, Any, Option, Some, None, Result, Ok, Err, option_map, find, bytes_eq, if◌then◌else◌}
 use Rattle.std.specs.Borrow.{Bor}
-use Rattle.rule_lines.specs.declared.code.CodeFault.TheVariants.{NotCode}
-use Rattle.rule_lines.specs.declared.instr.Instr.{Instr}
-use Rattle.rule_lines.specs.declared.instr.Verdict.{Verdict}
-use Rattle.rule_lines.specs.declared.instr.Verdict.TheVariants.{Allow, Deny}
-use Rattle.rule_lines.specs.declared.code.DecodeFault.{DecodeFault}
-use Rattle.rule_lines.specs.declared.code.DecodeFault.TheVariants.{Code as NoCode, OutOfMemory as NoMemoryToDecode}
-use Rattle.rule_lines.specs.declared.source.FindFault.{FindFault}
-use Rattle.rule_lines.specs.declared.source.FindFault.TheVariants.{Short, Device, OutOfMemory as NoMemoryToFind}
-use Rattle.rule_lines.specs.Codes.{decoded}
-use Rattle.rule_lines.specs.Lookups.{Finding, Has, Absent, Broken, Trust, Sound, WhereKnown}
-use Rattle.rule_lines.specs.Pairs.{Rule, pairs_of}
+use Rattle.rule_lookup.specs.declared.code.CodeFault.TheVariants.{NotCode}
+use Rattle.rule_lookup.specs.declared.instr.Instr.{Instr}
+use Rattle.rule_lookup.specs.declared.instr.Verdict.{Verdict}
+use Rattle.rule_lookup.specs.declared.instr.Verdict.TheVariants.{Allow, Deny}
+use Rattle.rule_lookup.specs.declared.code.DecodeFault.{DecodeFault}
+use Rattle.rule_lookup.specs.declared.code.DecodeFault.TheVariants.{Code as NoCode, OutOfMemory as NoMemoryToDecode}
+use Rattle.rule_lookup.specs.declared.source.FindFault.{FindFault}
+use Rattle.rule_lookup.specs.declared.source.FindFault.TheVariants.{Short, Device, OutOfMemory as NoMemoryToFind}
+use Rattle.rule_lookup.specs.Codes.{decoded}
+use Rattle.rule_lookup.specs.Lookups.{Finding, Has, Absent, Broken, Trust, Sound, WhereKnown}
+use Rattle.rule_lookup.specs.Pairs.{Rule, pairs_of}
 use Rattle.rule_lookup.specs.declared.decision.Decision.{Decision}
 use Rattle.rule_lookup.specs.declared.decision.DecideFault.{DecideFault}
 use Rattle.rule_lookup.specs.declared.decision.DecideFault.TheVariants.{Find, Code, OutOfMemory}

@@ -3,7 +3,7 @@ use Rattle.std.specs.Prelude.{◌≡◌, ℕ, ◌==◌, List, [], ◌∷◌, ◌
 use Rattle.std.specs.Net.Text.{ipv4_text}
 use Rattle.std.specs.declared.alloc.Global.{Global}
 use Rattle.std.specs.declared.string.String.{String}
-use Rattle.rule_lines.specs.Spread.{folded}
+use Rattle.rule_lookup.specs.Spread.{folded}
 use Rattle.rule_lookup.specs.Peers.{Client}
 
 -- the prefixes that end with a dot, longest first

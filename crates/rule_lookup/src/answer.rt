@@ -2,8 +2,8 @@
 ghost use Rattle.std.specs.Prelude.{◌≡◌, ◌++◌, OnOk, flat_map};
 ghost use Rattle.rule_lookup.specs.Answers.{answer_lines, found_line, setting_line, verdict_lines};
 
+use crate::instr::{Setting, Settings, Verdict};
 use crate::{Decision, Found};
-use rule_lines::{Setting, Settings, Verdict};
 use std::alloc::AllocError;
 
 /// Adds the lines that tell a decision: the rule's address or the default, the settings of an allowed connection, and the

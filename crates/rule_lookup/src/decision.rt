@@ -1,13 +1,14 @@
 //! Decisions.
 ghost use Rattle.std.specs.Prelude.{◌≡◌, Ok, Err, IfOk, IfErr, IfNone};
-ghost use Rattle.rule_lines.specs.Lookups.{WhereKnown};
+ghost use Rattle.rule_lookup.specs.Lookups.{WhereKnown};
 ghost use Rattle.rule_lookup.specs.Decisions.{decision_by, decision_from, finds_of, trust_of, by_default, without_file, by_rule, DecisionFails, MayFail, MayFailFrom, of_look_up, of_code};
 ghost use Rattle.rule_lookup.specs.declared.decision.DecideFault.TheVariants.{OutOfMemory};
 
 use crate::Peer;
+use crate::code::{CodeFault, DecodeFault};
 use crate::form::forms;
-use crate::source::RuleSource;
-use rule_lines::{CodeFault, DecodeFault, FindFault, Instr, Settings, Verdict};
+use crate::instr::{Instr, Settings, Verdict};
+use crate::source::{FindFault, RuleSource};
 use std::alloc::{AllocError, AllocFailed, Global};
 use std::marker::Model;
 use thiserror::Error;

@@ -1,6 +1,6 @@
 //! The lookup forms of a peer.
 ghost use Rattle.std.specs.Prelude.{◌≡◌, ◌++◌, ◌∷◌, [], map, string_bytes, IfOk, OnOk};
-ghost use Rattle.rule_lines.specs.Spread.{folded};
+ghost use Rattle.rule_lookup.specs.Spread.{folded};
 ghost use Rattle.rule_lookup.specs.Forms.{AddsForms, forms_of, dotted_fronts, user_at_address, user_at_host, host_alone, host_ends, any_host};
 
 use crate::Peer;

@@ -1,21 +1,19 @@
 //! Laws over the definitions alone.
-ghost use Rattle.std.specs.Prelude.{◌≡◌, ℕ, List, Ok};
-ghost use Rattle.rule_lines.specs.Faults.{IsAccepted};
-ghost use Rattle.rule_lines.specs.Lookups.{found_among};
-ghost use Rattle.rule_lines.specs.Pairs.{Rule, pairs_of};
-ghost use Rattle.rule_lines.specs.Rows.{AreRules};
-ghost use Rattle.rule_lines.specs.declared.limits.Limits.{Limits};
-ghost use Rattle.rule_lookup.specs.Decisions.{decision_by, decision_in, decision_of};
+ghost use Rattle.std.specs.Prelude.{◌≡◌, List, Ok};
+ghost use Rattle.rule_lookup.specs.Codes.{AreRules, IsInstr, code_of};
+ghost use Rattle.rule_lookup.specs.Decisions.{decision_by, decision_in};
+ghost use Rattle.rule_lookup.specs.Lookups.{found_among};
+ghost use Rattle.rule_lookup.specs.Pairs.{Rule};
 ghost use Rattle.rule_lookup.specs.Peers.{Client};
+ghost use Rattle.rule_lookup.specs.declared.instr.Instr.{Instr};
+
+/// No code is the code of two instructions.
+pub fn one_instr()
+    ensures { (i : Instr) (j : Instr) → IsInstr i → IsInstr j → code_of i ≡ code_of j → i ≡ j }
+{}
 
 /// Over a list of rules a decision is that of the first form that a rule has, by the first rule that has it.
 pub fn listed()
     ensures { (rules : List Rule) (peer : Client) → AreRules rules
         → decision_by (found_among rules) peer ≡ Ok (decision_in rules peer) }
-{}
-
-/// The list of an accepted text's rules decides every peer as the text does.
-pub fn accepted()
-    ensures { (limits : Limits) (text : List ℕ) (peer : Client) → IsAccepted limits text
-        → decision_by (found_among (pairs_of text)) peer ≡ Ok (decision_of text peer) }
 {}

@@ -8,8 +8,8 @@ use Rattle.std.proofs.lemmas.Bool.Decides.{nat_tests}
 use Rattle.std.proofs.lemmas.List.{map-append}
 use Rattle.std.proofs.lemmas.List.Folds.{list_any-append}
 use Rattle.std.proofs.lemmas.Str.Ascii.{lowercase_is}
-use Rattle.rule_lines.specs.Lines.{has_byte}
-use Rattle.rule_lines.specs.Spread.{folded}
+use Rattle.rule_lookup.specs.Lines.{has_byte}
+use Rattle.rule_lookup.specs.Spread.{folded}
 
 -- the bytes are in lower case
 abbrev pub IsLow : List ℕ → Type 0

@@ -10,8 +10,8 @@ use Rattle.std.proofs.lemmas.Bool.{and_from, and_parts, eqb-true, leb-true, ltb-
 use Rattle.std.proofs.lemmas.List.Elements.{All-nil, All-cons, All-append, All-map, All-weaker, All-contains, Contains-append_left, Contains-append_right}
 use Rattle.std.proofs.lemmas.List.Folds.{list_any-append}
 use Rattle.rule_lines.proofs.FoldLemmas.{length-folded}
-use Rattle.rule_lines.specs.Lines.{has_byte}
-use Rattle.rule_lines.specs.Spread.{folded}
+use Rattle.rule_lookup.specs.Lines.{has_byte}
+use Rattle.rule_lookup.specs.Spread.{folded}
 use Rattle.rule_lookup.specs.Forms.{any_host, dotted_ends, dotted_fronts, forms_of, host_alone, host_ends, plain_forms, user_at_address, user_at_host}
 use Rattle.rule_lookup.specs.Peers.{Client, HasNames, fits, is_peer_name}
 use Rattle.rule_warnings.proofs.CaseLemmas.{IsLow, behind_equals, folded-append, folded-low, folded_from_no_capitals, has_capitals, has_capitals-folded, has_zero-folded, low-cons, low_from_no_capitals}

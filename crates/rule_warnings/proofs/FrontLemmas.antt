@@ -16,7 +16,7 @@ use Rattle.std.proofs.lemmas.List.Elements.{All-nil, All-cons, All-append, All-m
 use Rattle.std.proofs.lemmas.Slice.Eq.{bytes_eq-Decides}
 use Rattle.std.proofs.lemmas.Str.Parse.{digit_at}
 use Rattle.std.specs.Fmt.{digits}
-use Rattle.rule_lines.specs.Lines.{has_byte}
+use Rattle.rule_lookup.specs.Lines.{has_byte}
 use Rattle.rule_lookup.specs.Forms.{dotted_fronts, dotted_ends}
 use Rattle.rule_warnings.proofs.CaseLemmas.{IsLow, low-cons, low-tail}
 use Rattle.rule_warnings.proofs.WholeLemmas.{is_whole-IsDotted}

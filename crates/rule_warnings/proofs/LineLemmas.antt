@@ -1,9 +1,9 @@
 -- Which lines are rules.
 use Rattle.std.proofs.Common.{◌≡◌, ◌≢◌, ℕ, ◌<◌, true, false, not, ◌||◌, List, [], ◌∷◌, length, get_or, refl, ap, ◌∙◌, arith, ne_eqb}
 use Rattle.memchr.specs.Find.{Passes, is_byte}
-use Rattle.rule_lines.specs.Lines.{has_byte}
-use Rattle.rule_lines.specs.Pairs.{is_ignored}
-use Rattle.rule_lines.proofs.FoundLemmas.{list_any-found}
+use Rattle.rule_lookup.specs.Lines.{has_byte}
+use Rattle.rule_lookup.specs.Pairs.{is_ignored}
+use Rattle.rule_lookup.proofs.FoundLemmas.{list_any-found}
 
 -- a line with a colon that doesn't begin with `#`
 pub is_ignored-rule : (line : List ℕ) (k : ℕ) → get_or line 0 0 ≢ 35 → k < length line → Passes (is_byte 58) line k → is_ignored line ≡ false

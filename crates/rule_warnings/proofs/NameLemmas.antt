@@ -3,7 +3,7 @@ use Rattle.std.proofs.Common.{◌≡◌, ℕ, Bool, true, false, ◌||◌, List,
 use Rattle.std.specs.Prelude.{option_map, option_and_then}
 use Rattle.std.specs.List.{list_any}
 use Rattle.std.specs.Option.{option_map_or}
-use Rattle.rule_lines.specs.Settings.{Assignment, Front, setting_at, settings_of}
+use Rattle.rule_lookup.specs.Settings.{Assignment, Front, setting_at, settings_of}
 use Rattle.rule_lines.proofs.ReadLemmas.{settings_of-comma}
 use Rattle.rule_warnings.specs.Names.{has_blank, is_blank_setting}
 

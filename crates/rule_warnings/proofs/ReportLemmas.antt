@@ -10,11 +10,11 @@ use Rattle.std.proofs.lemmas.Option.{none-some, same_Some}
 use Rattle.rule_lines.specs.declared.fault.LineKind.{LineKind}
 use Rattle.rule_lines.specs.declared.fault.LineKind.TheVariants.{NoVerdict, BadSetting, BadRange}
 use Rattle.rule_lines.specs.declared.fault.LineFault.{LineFault}
-use Rattle.rule_lines.specs.declared.instr.Verdict.{Verdict}
+use Rattle.rule_lookup.specs.declared.instr.Verdict.{Verdict}
 use Rattle.rule_lines.specs.Faults.{fault_beside, fault_in, fault_under, first_faulty, or_later}
-use Rattle.rule_lines.specs.Lines.{Line, lines_of, onto_line, trimmed}
-use Rattle.rule_lines.specs.Pairs.{address_in, instructions_in, is_ignored, settings_after, verdict_of}
-use Rattle.rule_lines.specs.Spread.{is_bad_range}
+use Rattle.rule_lookup.specs.Lines.{Line, lines_of, onto_line, trimmed}
+use Rattle.rule_lookup.specs.Pairs.{address_in, instructions_in, is_ignored, settings_after, verdict_of}
+use Rattle.rule_lookup.specs.Spread.{is_bad_range}
 use Rattle.rule_warnings.specs.declared.warning.Warning.{Warning}
 use Rattle.rule_warnings.specs.declared.warning.WarningKind.{WarningKind}
 use Rattle.rule_warnings.specs.declared.warning.WarningKind.TheVariants.{NoClient, UnknownUser, BlankName, NobodyElse, Ignored}

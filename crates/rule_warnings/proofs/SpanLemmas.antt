@@ -14,11 +14,11 @@ use Rattle.std.proofs.lemmas.List.Folds.{list_any_at}
 use Rattle.std.proofs.lemmas.List.FromFn.{get_or-map-range_with_len, get_or-range_with_len, length-map-range_with_len, length-range_with_len, map-range_with_len_more}
 use Rattle.std.proofs.lemmas.Option.{none-some, same_Some}
 use Rattle.std.proofs.lemmas.Slice.Eq.{bytes_eq-Decides}
-use Rattle.rule_lines.specs.Lines.{has_byte}
+use Rattle.rule_lookup.specs.Lines.{has_byte}
 use Rattle.rule_lines.specs.Rows.{addresses_under}
-use Rattle.rule_lines.specs.Spread.{is_number}
+use Rattle.rule_lookup.specs.Spread.{is_number}
 use Rattle.rule_lines.specs.declared.spread.Numbers.{Numbers}
-use Rattle.rule_lines.proofs.CodeLemmas.{after_first-stop, before_first-stop, option_map_found, position_or_len-stop}
+use Rattle.rule_lookup.proofs.CodeLemmas.{after_first-stop, before_first-stop, option_map_found, position_or_len-stop}
 use Rattle.rule_warnings.specs.declared.seen.Seen.{Seen}
 use Rattle.rule_warnings.specs.declared.spans.Span.{Span}
 use Rattle.rule_warnings.specs.Spans.{CutParts, around, cut_at, cut_in, has_number, is_back, is_cut, is_front, line_among, line_from, line_in, line_spanned, octet_in, soonest, sooner, with_part}

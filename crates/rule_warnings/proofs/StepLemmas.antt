@@ -14,7 +14,7 @@ use Rattle.std.specs.Borrow.{Bor}
 use Rattle.rule_lines.specs.declared.spread.ReadAddress.{ReadAddress}
 use Rattle.rule_lines.specs.declared.spread.ReadAddress.TheVariants.{One}
 use Rattle.rule_lines.specs.ReadAddresses.{addresses_read}
-use Rattle.rule_lines.specs.Spread.{folded}
+use Rattle.rule_lookup.specs.Spread.{folded}
 use Rattle.rule_warnings.proofs.CaseLemmas.{folded_from_no_capitals, has_capitals}
 use Rattle.rule_warnings.specs.Tables.{noted, noted_all}
 use Rattle.rule_warnings.specs.Warnings.{decided_by, least}

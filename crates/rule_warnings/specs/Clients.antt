@@ -2,7 +2,7 @@
 use Rattle.std.specs.Prelude.{◌≡◌, ℕ, ◌+◌, ◌<◌, Bool, false, not, ◌&&◌, ◌||◌, ◌==◌, nat_eq, nat_lt, nat_le, List, [], ◌∷◌, ◌++◌, length, get_or, drop, is_some, codes, Contains}
 use Rattle.std.specs.List.{ends_with, list_any, position_or_len}
 use Rattle.std.specs.Char.{is_ascii_uppercase}
-use Rattle.rule_lines.specs.Lines.{has_byte}
+use Rattle.rule_lookup.specs.Lines.{has_byte}
 use Rattle.rule_lookup.specs.Addresses.{ipv4_in}
 use Rattle.rule_lookup.specs.Forms.{forms_of}
 use Rattle.rule_lookup.specs.Peers.{Client, HasNames}

@@ -2,10 +2,10 @@
 use Rattle.std.specs.Prelude.{ℕ, Bool, true, false, not, ◌&&◌, ◌||◌, nat_eq, List, [], ◌∷◌, Option, Some, None}
 use Rattle.std.specs.List.{list_any, starts_with}
 use Rattle.std.specs.Option.{option_map_or}
-use Rattle.rule_lines.specs.declared.instr.Verdict.{Verdict}
-use Rattle.rule_lines.specs.Lines.{has_byte}
-use Rattle.rule_lines.specs.Pairs.{instructions_in, is_ignored, settings_after, verdict_of}
-use Rattle.rule_lines.specs.Settings.{Assignment}
+use Rattle.rule_lookup.specs.declared.instr.Verdict.{Verdict}
+use Rattle.rule_lookup.specs.Lines.{has_byte}
+use Rattle.rule_lookup.specs.Pairs.{instructions_in, is_ignored, settings_after, verdict_of}
+use Rattle.rule_lookup.specs.Settings.{Assignment}
 
 -- a blank or a tab
 abbrev pub has_blank : List ℕ → Bool

@@ -3,8 +3,8 @@ use Rattle.std.specs.Prelude.{ℕ, ◌+◌, Bool, true, not, ◌&&◌, ◌||◌,
 use Rattle.std.specs.List.{ends_with, position_or_len, range_with_len}
 use Rattle.std.specs.Option.{option_map_or}
 use Rattle.std.specs.Str.Parse.{digits_value}
-use Rattle.rule_lines.specs.Lines.{has_byte}
-use Rattle.rule_lines.specs.Spread.{is_number}
+use Rattle.rule_lookup.specs.Lines.{has_byte}
+use Rattle.rule_lookup.specs.Spread.{is_number}
 use Rattle.rule_lines.specs.declared.spread.Numbers.{Numbers}
 use Rattle.rule_warnings.specs.declared.spans.Cut.{Cut}
 use Rattle.rule_warnings.specs.declared.spans.Span.{Span}

@@ -1,9 +1,9 @@
 -- The warnings of an accepted rule text, and their lines.
 use Rattle.std.specs.Prelude.{ℕ, ◌+◌, Bool, false, not, ◌&&◌, ◌||◌, ◌==◌, nat_lt, min, is_some, is_none, List, [], ◌∷◌, ◌++◌, map, length, get_or, codes, decimal, Option, Some, None, bytes_eq, fold, flat_map, if◌then◌else◌}
 use Rattle.std.specs.List.{list_all, list_any, filter_map, position_or_len}
-use Rattle.rule_lines.specs.Lines.{Line, lines_of, trimmed, is_blank, has_byte}
-use Rattle.rule_lines.specs.Pairs.{is_ignored, address_in}
-use Rattle.rule_lines.specs.Spread.{spread}
+use Rattle.rule_lookup.specs.Lines.{Line, lines_of, trimmed, is_blank, has_byte}
+use Rattle.rule_lookup.specs.Pairs.{is_ignored, address_in}
+use Rattle.rule_lookup.specs.Spread.{spread}
 use Rattle.rule_warnings.specs.declared.warning.WarningKind.{WarningKind}
 use Rattle.rule_warnings.specs.declared.warning.WarningKind.TheVariants.{NoClient, UnknownUser, DecidedBy, BlankName, NobodyElse, Ignored}
 use Rattle.rule_warnings.specs.declared.warning.Warning.{Warning}

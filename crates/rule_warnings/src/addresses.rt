@@ -1,7 +1,7 @@
 //! The addresses of a rule line, one after another.
 ghost use Rattle.std.specs.Prelude.{◌≡◌, ◌<◌, ◌+◌, ◌++◌, [], length, get_or, decimal, OnOk};
 ghost use Rattle.rule_lines.specs.ReadAddresses.{addresses_read};
-ghost use Rattle.rule_lines.specs.Spread.{folded};
+ghost use Rattle.rule_lookup.specs.Spread.{folded};
 
 use crate::client::first_equals;
 use byte_text::push_number;

@@ -2,7 +2,7 @@
 ghost use Rattle.std.specs.Prelude.{◌≡◌, ◌<◌, ◌≤◌, ◌+◌, ◌==◌, ◌&&◌, ◌++◌, nat_lt, nat_le, length, get_or, drop};
 ghost use Rattle.std.specs.Char.{is_ascii_uppercase};
 ghost use Rattle.std.specs.List.{list_any, position_or_len};
-ghost use Rattle.rule_lines.specs.Lines.{has_byte};
+ghost use Rattle.rule_lookup.specs.Lines.{has_byte};
 ghost use Rattle.rule_lookup.specs.Addresses.{ipv4_in};
 ghost use Rattle.rule_warnings.specs.Clients.{is_form, is_plain, is_whole, is_front, is_host, is_end, is_users, asks_user};
 

@@ -2,10 +2,10 @@
 ghost use Rattle.std.specs.Prelude.{◌≡◌, ◌≤◌, ◌&&◌, ◌==◌, ℕ, List, [], not, is_none, None, true, false, length, drop, IfOk, OnOk, MatchOption};
 ghost use Rattle.std.specs.Char.{is_ascii_uppercase};
 ghost use Rattle.std.specs.List.{list_any, position_or_len};
-ghost use Rattle.rule_lines.specs.Lines.{is_blank};
-ghost use Rattle.rule_lines.specs.Pairs.{address_in, is_ignored};
+ghost use Rattle.rule_lookup.specs.Lines.{is_blank};
+ghost use Rattle.rule_lookup.specs.Pairs.{address_in, is_ignored};
 ghost use Rattle.rule_lines.specs.ReadAddresses.{addresses_read};
-ghost use Rattle.rule_lines.specs.Spread.{is_bad_range, spread};
+ghost use Rattle.rule_lookup.specs.Spread.{is_bad_range, spread};
 ghost use Rattle.rule_warnings.specs.Clients.{asks_user, is_form};
 ghost use Rattle.rule_warnings.specs.Findings.{kinds_in};
 ghost use Rattle.rule_warnings.specs.Tables.{IsUpTo, line_under, noted_all};
@@ -17,8 +17,8 @@ use crate::seen::Seen;
 use crate::settings::has_blank_name;
 use crate::spans::{is_cut, lesser};
 use memchr::memchr;
-use rule_lines::lines::is_blank;
 use rule_lines::spread::{ReadAddress, read_address};
+use rule_lookup::lines::is_blank;
 use std::alloc::{AllocError, Global};
 
 /// What is found in a line.

@@ -3,7 +3,7 @@ ghost use Rattle.std.specs.Prelude.{◌≡◌, ◌<◌, ◌≤◌, ◌⊎◌, �
 ghost use Rattle.std.specs.Io.KnownBytes.{Appends};
 ghost use Rattle.std.specs.List.{list_any};
 ghost use Rattle.rule_lines.specs.Faults.{first_faulty, IsAccepted};
-ghost use Rattle.rule_lines.specs.Lines.{lines_of};
+ghost use Rattle.rule_lookup.specs.Lines.{lines_of};
 ghost use Rattle.rule_warnings.specs.Findings.{kinds_in, OnRefusal, RefusedBy, WarnFails};
 ghost use Rattle.rule_warnings.specs.Names.{names_host};
 ghost use Rattle.rule_warnings.specs.Warnings.{lines_report, report_of, table_report, trimmed_lines, warning_line, warnings_at, warnings_of, when, when_decided};
@@ -14,8 +14,8 @@ use crate::findings::{Findings, look_at};
 use crate::seen::Seen;
 use crate::settings::names_host;
 use crate::warning::{Warning, WarningKind};
-use rule_lines::lines::{first_line, trim_blanks};
 use rule_lines::{Limits, LineFault, ParseFault};
+use rule_lookup::lines::{first_line, trim_blanks};
 use std::alloc::{AllocError, Global};
 use std::io::Write;
 use thiserror::Error;

@@ -1,7 +1,7 @@
 //! The names of the settings of a line.
 ghost use Rattle.std.specs.Prelude.{◌≡◌, ◌||◌, MatchOption, true, false};
-ghost use Rattle.rule_lines.specs.Pairs.{instructions_in, is_ignored, verdict_of};
-ghost use Rattle.rule_lines.specs.Settings.{settings_of};
+ghost use Rattle.rule_lookup.specs.Pairs.{instructions_in, is_ignored, verdict_of};
+ghost use Rattle.rule_lookup.specs.Settings.{settings_of};
 ghost use Rattle.rule_warnings.specs.Names.{blank_among, blank_behind, has_blank, has_blank_name, names_host};
 
 use crate::client::contains;

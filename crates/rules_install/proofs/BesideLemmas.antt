@@ -22,11 +22,11 @@ use Rattle.rules_install.specs.Beside.{AreBegun, Beside, IsCompiledOf, IsFilled,
 use Rattle.rules_install.specs.Filled.{filled_file, whole_file}
 use Rattle.rules_install.specs.Installing.{FitsPhase, Installing, IsConsistent, next_phase, synced_file}
 use Rattle.rules_install.specs.Steps.{Changes, IsCallOf, IsSame}
-use Rattle.rules_install.specs.declared.Phase.{Phase}
-use Rattle.rules_install.specs.declared.Phase.TheVariants.{Fresh, Filling, Synced, Named, Done}
+use Rattle.dir_calls.specs.declared.phase.Phase.{Phase}
+use Rattle.dir_calls.specs.declared.phase.Phase.TheVariants.{Fresh, Filling, Synced, Named, Done}
 use Rattle.rules_install.specs.declared.fault.InstallFault.{InstallFault}
 use Rattle.rules_install.specs.declared.fault.InstallFault.TheVariants.{Line, TooLarge, Disk, Over, OutOfMemory}
-use Rattle.rule_lines.specs.Pairs.{Rule}
+use Rattle.rule_lookup.specs.Pairs.{Rule}
 use Rattle.rules_install.proofs.FillSteps.{is_filling}
 use Rattle.rules_install.proofs.StepFits.{named_next, numbered, synced_next, with_file_at}
 

@@ -10,7 +10,7 @@ use Rattle.cdb_files.specs.Image.{finished_length, header_bytes, pointer_of, poi
 use Rattle.cdb_files.proofs.Positions.{length-file}
 use Rattle.cdb_files.proofs.Reading.{length-two_numbers}
 use Rattle.cdb_files.specs.Compiled.{stored}
-use Rattle.rule_lines.specs.Pairs.{Rule}
+use Rattle.rule_lookup.specs.Pairs.{Rule}
 use Rattle.rules_install.specs.Filled.{blank_file, filled_file, fillings_left, whole_file}
 
 -- ---- a piece of which some was appended, and what comes after it

@@ -16,8 +16,8 @@ use Rattle.dir_calls.proofs.Lasting.{CallKeeps, image_has, left_has, does_lasts}
 use Rattle.dir_calls.proofs.Moments.{one_call, started}
 use Rattle.cdb_files.specs.Image.{finished_length, header_bytes, pointers_of}
 use Rattle.cdb_files.specs.Compiled.{stored}
-use Rattle.rules_install.specs.declared.Phase.{Phase}
-use Rattle.rules_install.specs.declared.Phase.TheVariants.{Fresh, Filling, Synced, Named, Done}
+use Rattle.dir_calls.specs.declared.phase.Phase.{Phase}
+use Rattle.dir_calls.specs.declared.phase.Phase.TheVariants.{Fresh, Filling, Synced, Named, Done}
 use Rattle.rules_install.specs.declared.fault.InstallFault.{InstallFault}
 use Rattle.rules_install.specs.declared.fault.InstallFault.TheVariants.{OutOfMemory}
 use Rattle.rules_install.specs.Filled.{blank_file, filled_file, fillings_left, whole_file}

@@ -4,8 +4,8 @@ use Rattle.std.proofs.lemmas.List.{length-map, map-append, map_more, take-append
 use Rattle.std.proofs.lemmas.List.Concat.{flat_map-append}
 use Rattle.std.proofs.lemmas.List.Sums.{sum_by-cons}
 use Rattle.std.proofs.lemmas.Option.{get_or_from_slice_get, slice_get_within}
-use Rattle.rule_lines.specs.Codes.{code_of}
-use Rattle.rule_lines.specs.Pairs.{Rule}
+use Rattle.rule_lookup.specs.Codes.{code_of}
+use Rattle.rule_lookup.specs.Pairs.{Rule}
 use Rattle.rule_lines.specs.Rows.{rule_length, stored_length}
 use Rattle.cdb_files.specs.Format.{Pair, entries_of, hash_of, record_of, records_of}
 use Rattle.cdb_files.specs.Image.{finished_length, records_length}

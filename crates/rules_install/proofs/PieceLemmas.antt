@@ -5,9 +5,9 @@ use Rattle.std.proofs.lemmas.Bool.{false≢true}
 use Rattle.std.proofs.lemmas.List.{at_drop_all, drop_more, get_or-map, length-map, length-replicate, nil_from_length}
 use Rattle.std.proofs.lemmas.List.Folds.{length-flat_map-take}
 use Rattle.std.proofs.lemmas.Option.{get_or_from_slice_get, none-some, slice_get_cases, slice_get_within}
-use Rattle.rule_lines.specs.Codes.{code_of}
+use Rattle.rule_lookup.specs.Codes.{code_of}
 use Rattle.rule_lines.specs.Kept.{IsStored}
-use Rattle.rule_lines.specs.Pairs.{Rule}
+use Rattle.rule_lookup.specs.Pairs.{Rule}
 use Rattle.cdb_files.specs.Format.{Pair, record_of, records_of, two_numbers}
 use Rattle.cdb_files.specs.Image.{finished_length, free_slot, records_length, slots_of, table_bytes, with_entry}
 use Rattle.cdb_files.proofs.RecordLemmas.{length-record_bytes}

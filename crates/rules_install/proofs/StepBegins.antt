@@ -1,8 +1,8 @@
 -- Before the first step nothing is filled.
 use Rattle.std.proofs.Common.{◌≡◌, true, false, ℕ}
 use Rattle.std.specs.Prelude.{Option, None, Some}
-use Rattle.rules_install.specs.declared.Phase.{Phase}
-use Rattle.rules_install.specs.declared.Phase.TheVariants.{Fresh, Filling}
+use Rattle.dir_calls.specs.declared.phase.Phase.{Phase}
+use Rattle.dir_calls.specs.declared.phase.Phase.TheVariants.{Fresh, Filling}
 
 pub not_whole : (filled size : ℕ) → false ≡ true → filled ≡ size
 not_whole filled size is = absurd (cc)

@@ -15,8 +15,8 @@ use Rattle.dir_calls.proofs.Counting.{counts_later, counts_device}
 use Rattle.dir_calls.proofs.Lasting.{CallKeeps}
 use Rattle.dir_calls.proofs.Replacing.{stays_call}
 use Rattle.rules_install.proofs.StepFaults.{IsSure, of_device, no_memory}
-use Rattle.rules_install.specs.declared.Phase.{Phase}
-use Rattle.rules_install.specs.declared.Phase.TheVariants.{Done}
+use Rattle.dir_calls.specs.declared.phase.Phase.{Phase}
+use Rattle.dir_calls.specs.declared.phase.Phase.TheVariants.{Done}
 use Rattle.rules_install.specs.declared.fault.InstallFault.{InstallFault}
 use Rattle.rules_install.specs.Filled.{whole_file}
 use Rattle.rules_install.specs.Installing.{Installing, Fits, FitsPhase}

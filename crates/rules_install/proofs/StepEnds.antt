@@ -7,8 +7,8 @@ use Rattle.dir_calls.specs.Lasting.{IsAmong, LastsAmong, HasAmong}
 use Rattle.dir_calls.specs.declared.dir.Dir.{Ghosts}
 use Rattle.dir_calls.proofs.Lasting.{image_has, lasts_more}
 use Rattle.dir_calls.proofs.Moments.{started}
-use Rattle.rules_install.specs.declared.Phase.{Phase}
-use Rattle.rules_install.specs.declared.Phase.TheVariants.{Fresh, Filling, Synced, Named, Done}
+use Rattle.dir_calls.specs.declared.phase.Phase.{Phase}
+use Rattle.dir_calls.specs.declared.phase.Phase.TheVariants.{Fresh, Filling, Synced, Named, Done}
 use Rattle.rules_install.specs.declared.fault.InstallFault.{InstallFault}
 use Rattle.rules_install.specs.declared.fault.InstallFault.TheVariants.{Over, OutOfMemory}
 use Rattle.rules_install.specs.NamePair.{NamePair}

@@ -3,8 +3,8 @@ use Rattle.std.proofs.Common.{◌≡◌, ◌≢◌, ◌⊎◌, inl, inr, ⊎_eli
 use Rattle.std.specs.Prelude.{Result, Ok, Err, IfErr, Contains}
 use Rattle.dir_calls.specs.declared.fault.DirFault.{DirFault}
 use Rattle.dir_calls.specs.declared.fault.DirFault.TheVariants.{NoScratch, NoName, Device, OutOfMemory as NoMemory}
-use Rattle.rules_install.specs.declared.Phase.{Phase}
-use Rattle.rules_install.specs.declared.Phase.TheVariants.{Done}
+use Rattle.dir_calls.specs.declared.phase.Phase.{Phase}
+use Rattle.dir_calls.specs.declared.phase.Phase.TheVariants.{Done}
 use Rattle.rules_install.specs.declared.fault.InstallFault.TheVariants.{OutOfMemory}
 use Rattle.rules_install.specs.Steps.{IsOfDevice, answer_of}
 

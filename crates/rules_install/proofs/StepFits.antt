@@ -9,9 +9,9 @@ use Rattle.dir_calls.specs.Lasting.{StandsFor, LastsAmong}
 use Rattle.dir_calls.proofs.NamesOf.{get-insert_same}
 use Rattle.dir_calls.proofs.NameTables.{current-push, left_settled}
 use Rattle.dir_calls.proofs.Renames.{moved_file}
-use Rattle.rule_lines.specs.Pairs.{Rule}
-use Rattle.rules_install.specs.declared.Phase.{Phase}
-use Rattle.rules_install.specs.declared.Phase.TheVariants.{Fresh, Filling, Synced, Named, Done}
+use Rattle.rule_lookup.specs.Pairs.{Rule}
+use Rattle.dir_calls.specs.declared.phase.Phase.{Phase}
+use Rattle.dir_calls.specs.declared.phase.Phase.TheVariants.{Fresh, Filling, Synced, Named, Done}
 use Rattle.rules_install.specs.Filled.{blank_file, whole_file, filled_file}
 use Rattle.rules_install.specs.Installing.{Installing, FitsPhase, HasScratch, next_of, next_phase, file_among}
 

@@ -3,7 +3,7 @@ use Rattle.std.proofs.Common.{◌≡◌, true, refl, sym, ◌∙◌, ap}
 use Rattle.std.specs.Prelude.{None, Some, Result, Err}
 use Rattle.dir_calls.specs.declared.fault.DirFault.{DirFault}
 use Rattle.dir_calls.specs.declared.fault.DirFault.TheVariants.{NoScratch, NoName, Device, OutOfMemory as NoMemory}
-use Rattle.rules_install.specs.declared.Phase.{Phase}
+use Rattle.dir_calls.specs.declared.phase.Phase.{Phase}
 use Rattle.rules_install.specs.declared.fault.InstallFault.TheVariants.{Disk}
 use Rattle.rules_install.specs.Installing.{Installing}
 use Rattle.rules_install.specs.Steps.{answer_of, noted}

@@ -26,8 +26,8 @@ use Rattle.rules_install.specs.Filled.{IsWritten, whole_file, fillings_left}
 use Rattle.rules_install.specs.Installing.{Installing, FitsPhase, IsConsistent, IsUnfilled, next_of, next_phase, synced_file}
 use Rattle.rules_install.specs.Steps.{BlamesFault, Changes, Goes, HasFilled, IsOfDevice, IsSame, StepKeeps, answer_of, may_stand}
 use Rattle.rules_install.specs.Whole.{Ends, EndsRun, FailsAt, IsRefused, MayBeInstalled, RefusesText, StandsAtDone, TellsWhere, may_have}
-use Rattle.rules_install.specs.declared.Phase.{Phase}
-use Rattle.rules_install.specs.declared.Phase.TheVariants.{Fresh, Filling, Synced, Named, Done}
+use Rattle.dir_calls.specs.declared.phase.Phase.{Phase}
+use Rattle.dir_calls.specs.declared.phase.Phase.TheVariants.{Fresh, Filling, Synced, Named, Done}
 use Rattle.rules_install.specs.declared.fault.InstallFault.{InstallFault}
 use Rattle.rules_install.specs.declared.fault.InstallFault.TheVariants.{Line, TooLarge, Disk, Over, OutOfMemory}
 use Rattle.rules_install.proofs.StepFits.{numbered}

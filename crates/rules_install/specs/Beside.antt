@@ -5,14 +5,14 @@ use Rattle.dir_calls.specs.NameTable.{NameTable}
 use Rattle.dir_calls.specs.Directory.{Directory, FileState, number_of, scratch_of}
 use Rattle.dir_calls.specs.Lasting.{IsAmong}
 use Rattle.dir_calls.specs.Torn.{StoodThere}
-use Rattle.rule_lines.specs.Pairs.{Rule}
+use Rattle.rule_lookup.specs.Pairs.{Rule}
 use Rattle.rule_lines.specs.Texts.{AreOfText}
 use Rattle.rules_install.specs.Filled.{IsWritten, filled_file, whole_file}
 use Rattle.rules_install.specs.Installing.{Installing, next_phase, synced_file}
 use Rattle.rules_install.specs.Series.{MayStepFrom}
 use Rattle.rules_install.specs.Steps.{Changes, Goes, IsSame}
-use Rattle.rules_install.specs.declared.Phase.{Phase}
-use Rattle.rules_install.specs.declared.Phase.TheVariants.{Fresh, Filling, Named}
+use Rattle.dir_calls.specs.declared.phase.Phase.{Phase}
+use Rattle.dir_calls.specs.declared.phase.Phase.TheVariants.{Fresh, Filling, Named}
 use Rattle.rules_install.specs.declared.fault.InstallFault.{InstallFault}
 
 -- A run of an installation: how far it has come, the file that it may write, and the file that it made.

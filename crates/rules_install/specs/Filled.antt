@@ -4,7 +4,7 @@ use Rattle.cdb_files.specs.Format.{records_of}
 use Rattle.cdb_files.specs.Image.{image_of, tables_of}
 use Rattle.cdb_files.specs.Written.{Written}
 use Rattle.cdb_files.specs.Compiled.{stored}
-use Rattle.rule_lines.specs.Pairs.{Rule}
+use Rattle.rule_lookup.specs.Pairs.{Rule}
 
 -- the compiled file of some rules
 abbrev pub whole_file : List Rule → List ℕ

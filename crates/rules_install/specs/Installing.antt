@@ -4,12 +4,12 @@ use Rattle.std.specs.FinMap.{get}
 use Rattle.dir_calls.specs.NameTable.{Names, CanBeLeft}
 use Rattle.dir_calls.specs.Directory.{Directory, FileState, number_of, scratch_of, file_at}
 use Rattle.dir_calls.specs.Lasting.{LastsAmong}
-use Rattle.rule_lines.specs.Pairs.{Rule}
+use Rattle.rule_lookup.specs.Pairs.{Rule}
 use Rattle.rule_lines.specs.Texts.{AreOfText}
 use Rattle.rules_install.specs.NamePair.{NamePair}
 use Rattle.rules_install.specs.Filled.{IsWritten, whole_file, filled_file, fillings_left}
-use Rattle.rules_install.specs.declared.Phase.{Phase}
-use Rattle.rules_install.specs.declared.Phase.TheVariants.{Fresh, Filling, Synced, Named, Done}
+use Rattle.dir_calls.specs.declared.phase.Phase.{Phase}
+use Rattle.dir_calls.specs.declared.phase.Phase.TheVariants.{Fresh, Filling, Synced, Named, Done}
 
 pub record Installing : Type 0 where
   pub rules : List Rule

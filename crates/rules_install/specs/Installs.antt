@@ -5,8 +5,8 @@ use Rattle.dir_calls.specs.declared.dir.Dir.{Ghosts}
 use Rattle.rules_install.specs.Filled.{blank_file}
 use Rattle.rules_install.specs.Installing.{Installing, next_phase}
 use Rattle.rules_install.specs.Steps.{Changes, Goes, StepKeeps, StepStops, StepsTo}
-use Rattle.rules_install.specs.declared.Phase.{Phase}
-use Rattle.rules_install.specs.declared.Phase.TheVariants.{Done}
+use Rattle.dir_calls.specs.declared.phase.Phase.{Phase}
+use Rattle.dir_calls.specs.declared.phase.Phase.TheVariants.{Done}
 use Rattle.rules_install.specs.declared.fault.InstallFault.{InstallFault}
 use Rattle.rules_install.specs.declared.install.Install.{Install}
 

@@ -4,7 +4,7 @@ use Rattle.cdb_files.specs.Format.{Pair, entries_of}
 use Rattle.cdb_files.specs.Image.{finished_length, records_length}
 use Rattle.cdb_files.specs.Tables.{HoldsByTable}
 use Rattle.cdb_files.specs.Compiled.{stored}
-use Rattle.rule_lines.specs.Pairs.{Rule}
+use Rattle.rule_lookup.specs.Pairs.{Rule}
 use Rattle.rules_install.specs.declared.layout.Layout.{Layout}
 
 -- the first rules as they are stored

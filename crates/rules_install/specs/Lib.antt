@@ -5,7 +5,6 @@ pub mod Installing
 pub mod Installs
 pub mod NamePair
 pub mod ParseFaults
-pub mod PhaseWords
 pub mod Pieces
 pub mod Layout
 pub mod Series

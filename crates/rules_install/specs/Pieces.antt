@@ -5,7 +5,7 @@ use Rattle.cdb_files.specs.Format.{records_of}
 use Rattle.cdb_files.specs.Image.{table_bytes, tables_of}
 use Rattle.cdb_files.specs.Slots.{table_entries}
 use Rattle.cdb_files.specs.Compiled.{stored}
-use Rattle.rule_lines.specs.Pairs.{Rule}
+use Rattle.rule_lookup.specs.Pairs.{Rule}
 use Rattle.rules_install.specs.Filled.{blank_file}
 use Rattle.rules_install.specs.declared.pieces.Piece.{Piece}
 use Rattle.rules_install.specs.declared.pieces.Piece.TheVariants.{Unset, Record, Table}

@@ -3,8 +3,8 @@ use Rattle.std.specs.Prelude.{◌≡◌, ◌≢◌, false, Some, Result, Ok, Err
 use Rattle.dir_calls.specs.Directory.{Directory}
 use Rattle.rules_install.specs.Installing.{Installing, IsConsistent, Fits, next_phase}
 use Rattle.rules_install.specs.Steps.{Changes, Goes, IsOfDevice, IsSame}
-use Rattle.rules_install.specs.declared.Phase.{Phase}
-use Rattle.rules_install.specs.declared.Phase.TheVariants.{Done}
+use Rattle.dir_calls.specs.declared.phase.Phase.{Phase}
+use Rattle.dir_calls.specs.declared.phase.Phase.TheVariants.{Done}
 use Rattle.rules_install.specs.declared.fault.InstallFault.{InstallFault}
 
 -- an installation may make a step

@@ -10,7 +10,7 @@ use Rattle.cdb_files.specs.Making.{limit_of}
 use Rattle.cdb_files.specs.Compiled.{stored}
 use Rattle.cdb_files.specs.Reading.{reading}
 use Rattle.rule_lines.specs.Faults.{IsAccepted, Refuses}
-use Rattle.rule_lines.specs.Pairs.{pairs_of}
+use Rattle.rule_lookup.specs.Pairs.{pairs_of}
 use Rattle.rule_lookup.specs.Decisions.{decision_by, decision_of}
 use Rattle.rule_lookup.specs.Peers.{Client}
 use Rattle.rule_lines.specs.declared.limits.Limits.{Limits}
@@ -19,8 +19,8 @@ use Rattle.rules_install.specs.Filled.{whole_file}
 use Rattle.rules_install.specs.NamePair.{NamePair}
 use Rattle.rules_install.specs.Installing.{Installing, FitsPhase, begun, next_phase, synced_file}
 use Rattle.rules_install.specs.Steps.{Changes, IsOfDevice, IsSame}
-use Rattle.rules_install.specs.declared.Phase.{Phase}
-use Rattle.rules_install.specs.declared.Phase.TheVariants.{Named, Done}
+use Rattle.dir_calls.specs.declared.phase.Phase.{Phase}
+use Rattle.dir_calls.specs.declared.phase.Phase.TheVariants.{Named, Done}
 use Rattle.rules_install.specs.declared.fault.InstallFault.{InstallFault}
 use Rattle.rules_install.specs.declared.fault.InstallFault.TheVariants.{Line, TooLarge, Disk, Over, OutOfMemory}
 

@@ -3,8 +3,7 @@ ghost use Rattle.std.specs.Prelude.{◌≡◌};
 ghost use Rattle.rules_install.specs.ParseFaults.{of_parse};
 ghost use Rattle.rules_install.specs.declared.fault.InstallFault.TheVariants.{OutOfMemory};
 
-use crate::Phase;
-use dir_calls::DirFault;
+use dir_calls::{DirFault, Phase};
 use rule_lines::{LineFault, ParseFault};
 use std::alloc::{AllocError, AllocFailed};
 use thiserror::Error;

@@ -7,12 +7,12 @@ ghost use Rattle.rules_install.specs.Filled.{IsWritten, blank_file};
 ghost use Rattle.rules_install.specs.Pieces.{IsLeft};
 ghost use Rattle.rules_install.specs.Installing.{IsConsistent, IsUnfilled, begun, next_phase, FillsMore, Fits, HasForGood};
 ghost use Rattle.rules_install.specs.Steps.{IsSame, HasFilled, IsOfDevice, BlamesDevice, answer_of, noted};
-ghost use Rattle.rules_install.specs.declared.Phase.TheVariants.{Fresh, Filling, Synced, Named, Done};
+ghost use Rattle.dir_calls.specs.declared.phase.Phase.TheVariants.{Fresh, Filling, Synced, Named, Done};
 ghost use Rattle.rules_install.specs.declared.fault.InstallFault.TheVariants.{Over, OutOfMemory, TooLarge};
 
 use crate::pieces::{Piece, Pieces};
-use crate::{FileNames, InstallFault, Phase};
-use dir_calls::{Dir, DirFault, Name};
+use crate::{FileNames, InstallFault};
+use dir_calls::{Dir, DirFault, Name, Phase};
 use rule_lines::{Limits, RuleList, StoredRule};
 use std::alloc::{AllocError, Global};
 

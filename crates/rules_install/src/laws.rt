@@ -7,13 +7,13 @@ ghost use Rattle.dir_calls.specs.Torn.{StoodThere};
 ghost use Rattle.cdb_files.specs.Compiled.{Compiled};
 ghost use Rattle.cdb_files.specs.Reading.{reading};
 ghost use Rattle.rule_lines.specs.Faults.{IsAccepted};
-ghost use Rattle.rule_lines.specs.Pairs.{pairs_of};
+ghost use Rattle.rule_lookup.specs.Pairs.{pairs_of};
 ghost use Rattle.rule_lines.specs.declared.limits.Limits.{Limits};
 ghost use Rattle.rule_lookup.specs.Decisions.{decision_by, decision_in};
 ghost use Rattle.rules_install.specs.Beside.{AreBegun, Beside, IsItsFile, IsWhole, MakesOwn, MovesOwn, Run, RunSteps, Shared, run_after, view};
 ghost use Rattle.rules_install.specs.Installing.{Fits, Installing};
 ghost use Rattle.rules_install.specs.Series.{MakesStep};
-ghost use Rattle.rules_install.specs.declared.Phase.{Phase};
+ghost use Rattle.dir_calls.specs.declared.phase.Phase.{Phase};
 ghost use Rattle.rules_install.specs.declared.fault.InstallFault.{InstallFault};
 ghost use Rattle.rule_lookup.specs.Peers.{Client};
 

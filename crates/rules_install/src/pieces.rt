@@ -5,7 +5,7 @@ ghost use Rattle.cdb_files.specs.Image.{finished_length, pointers_of, header_byt
 ghost use Rattle.cdb_files.specs.Making.{limit_of};
 ghost use Rattle.cdb_files.specs.Tables.{HoldsByTable};
 ghost use Rattle.cdb_files.specs.Compiled.{stored};
-ghost use Rattle.rule_lines.specs.Pairs.{Rule};
+ghost use Rattle.rule_lookup.specs.Pairs.{Rule};
 ghost use Rattle.rules_install.specs.Pieces.{Continues};
 
 use crate::InstallFault;
@@ -38,7 +38,7 @@ pub struct Pieces {
 
 impl Model for Pieces {
     ghost use Rattle.std.specs.Prelude.{List};
-    ghost use Rattle.rule_lines.specs.Pairs.{Rule};
+    ghost use Rattle.rule_lookup.specs.Pairs.{Rule};
     ghost use Rattle.rules_install.specs.Layout.{ArePlaced};
 
     ghost Value = { List Rule };

@@ -2,7 +2,7 @@
 ghost use Rattle.std.specs.Prelude.{◌≡◌, IsTrue, false, OnOk, IfOk, IfErr};
 ghost use Rattle.dir_calls.specs.Directory.{content};
 ghost use Rattle.cdb_files.specs.Compiled.{Compiled};
-ghost use Rattle.rule_lines.specs.Pairs.{pairs_of};
+ghost use Rattle.rule_lookup.specs.Pairs.{pairs_of};
 ghost use Rattle.rules_install.specs.Filled.{IsWritten, whole_file};
 ghost use Rattle.rules_install.specs.Installing.{begun, Fits, HasForGood};
 ghost use Rattle.rules_install.specs.Installs.{installing, IsUndone};
@@ -11,8 +11,8 @@ ghost use Rattle.rules_install.specs.Steps.{BlamesFault, IsSame};
 ghost use Rattle.rules_install.specs.Whole.{Begins, DecidesAs, Ends, EndsRun, IsDeviceFault, IsRefused, RunKeeps, RunLasts, StandsAtDone, TellsWhere, begun_of};
 
 use crate::laws::decides;
-use crate::{FileNames, Install, InstallFault, Phase};
-use dir_calls::Dir;
+use crate::{FileNames, Install, InstallFault};
+use dir_calls::{Dir, Phase};
 use rule_lines::{Limits, parse};
 use std::alloc::Global;
 

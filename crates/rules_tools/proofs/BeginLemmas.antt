@@ -17,8 +17,8 @@ use Rattle.dir_calls.proofs.Replacing.{stays_call}
 use Rattle.rules_install.specs.Installing.{Fits, FitsPhase, Installing, IsConsistent, next_of, next_phase}
 use Rattle.rules_install.specs.Series.{MakesStep}
 use Rattle.rules_install.specs.Steps.{BlamesFault, Changes, Goes, IsOfDevice, IsSame, StepStops}
-use Rattle.rules_install.specs.declared.Phase.{Phase}
-use Rattle.rules_install.specs.declared.Phase.TheVariants.{Fresh, Filling, Synced, Named, Done}
+use Rattle.dir_calls.specs.declared.phase.Phase.{Phase}
+use Rattle.dir_calls.specs.declared.phase.Phase.TheVariants.{Fresh, Filling, Synced, Named, Done}
 use Rattle.rules_install.specs.declared.fault.InstallFault.{InstallFault}
 use Rattle.rules_install.specs.declared.fault.InstallFault.TheVariants.{Line, TooLarge, Disk, Over, OutOfMemory}
 use Rattle.rules_install.proofs.WholeLemmas.{blames_run}

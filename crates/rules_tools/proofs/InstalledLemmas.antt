@@ -12,7 +12,7 @@ use Rattle.cdb_files.specs.Making.{limit_of}
 use Rattle.cdb_files.specs.Compiled.{Compiled, stored}
 use Rattle.cdb_files.specs.Reading.{reading}
 use Rattle.rule_lines.specs.Faults.{IsAccepted, Refuses, fault_of}
-use Rattle.rule_lines.specs.Pairs.{pairs_of}
+use Rattle.rule_lookup.specs.Pairs.{pairs_of}
 use Rattle.rule_lines.specs.declared.fault.LineFault.{LineFault}
 use Rattle.rule_lines.specs.declared.fault.LineKind.{LineKind}
 use Rattle.rule_lines.specs.declared.fault.LineKind.TheVariants.{NoVerdict, BadSetting, BadRange, NotText, NulByte, LongLine, LongText as TextIsLong}
@@ -26,8 +26,8 @@ use Rattle.rules_install.specs.Installing.{Installing, HasForGood}
 use Rattle.rules_install.specs.NamePair.{NamePair}
 use Rattle.rules_install.specs.ParseFaults.{of_parse}
 use Rattle.rules_install.specs.Whole.{IsDeviceFault, MayBeInstalled, RunKeeps, RunLasts, begun_of, may_have}
-use Rattle.rules_install.specs.declared.Phase.{Phase}
-use Rattle.rules_install.specs.declared.Phase.TheVariants.{Fresh, Filling, Synced, Named, Done}
+use Rattle.dir_calls.specs.declared.phase.Phase.{Phase}
+use Rattle.dir_calls.specs.declared.phase.Phase.TheVariants.{Fresh, Filling, Synced, Named, Done}
 use Rattle.rules_install.specs.declared.fault.InstallFault.{InstallFault}
 use Rattle.rules_install.specs.declared.fault.InstallFault.TheVariants as install
 use Rattle.rules_install.proofs.WholeLemmas.{none_left, stands_now}

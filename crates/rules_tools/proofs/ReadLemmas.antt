@@ -7,7 +7,7 @@ use Rattle.rule_lines.specs.declared.fault.LineFault.{LineFault}
 use Rattle.rule_lines.specs.declared.fault.LineKind.TheVariants.{LongText}
 use Rattle.rule_lines.specs.declared.limits.Limits.{Limits}
 use Rattle.rule_lines.specs.Faults.{IsAccepted, fault_of, first_faulty}
-use Rattle.rule_lines.specs.Lines.{lines_of}
+use Rattle.rule_lookup.specs.Lines.{lines_of}
 use Rattle.rule_warnings.specs.declared.report.WarnFault.{WarnFault}
 use Rattle.rule_warnings.specs.declared.report.WarnFault.TheVariants as warn
 use Rattle.rule_warnings.specs.Findings.{WarnFails}

@@ -11,7 +11,7 @@ use Rattle.dir_calls.specs.declared.fault.DirFault.TheVariants as dir
 use Rattle.dir_calls.specs.declared.dir.Dir.{Ghosts}
 use Rattle.dir_calls.proofs.Clearing.{same_stays, stays_on}
 use Rattle.dir_calls.proofs.Replacing.{stays_then}
-use Rattle.rule_lines.specs.Pairs.{Rule}
+use Rattle.rule_lookup.specs.Pairs.{Rule}
 use Rattle.rules_install.specs.Filled.{whole_file}
 use Rattle.rules_install.specs.Installing.{HasForGood, Installing}
 use Rattle.rules_install.specs.NamePair.{NamePair}
@@ -19,7 +19,7 @@ use Rattle.rules_install.specs.Series.{ComesTo, IsSeries, further, none}
 use Rattle.rules_install.specs.Steps.{BlamesFault, HasFailed, IsSame}
 use Rattle.rules_install.proofs.StepFits.{fresh_next}
 use Rattle.rules_install.specs.Whole.{EndsRun, IsDeviceFault, RunKeeps, RunLasts, may_have}
-use Rattle.rules_install.specs.declared.Phase.TheVariants.{Fresh, Filling, Synced, Named, Done}
+use Rattle.dir_calls.specs.declared.phase.Phase.TheVariants.{Fresh, Filling, Synced, Named, Done}
 use Rattle.rules_install.specs.declared.fault.InstallFault.{InstallFault}
 use Rattle.rules_install.specs.declared.fault.InstallFault.TheVariants.{Line, TooLarge, Disk, Over, OutOfMemory}
 use Rattle.rules_tools.specs.Disks.{BlamesDisk, EndsOnDisk, HasFailedSince, IsAtFresh, fails_on_disk}

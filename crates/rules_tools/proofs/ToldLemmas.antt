@@ -2,9 +2,9 @@
 use Rattle.std.proofs.Common.{◌≡◌, ℕ, List, refl, sym, ap}
 use Rattle.std.specs.Prelude.{Option, None, Some, Result, Ok, find}
 use Rattle.cdb_files.specs.Reading.{reading}
-use Rattle.rule_lines.specs.Codes.{decoded}
-use Rattle.rule_lines.specs.Lookups.{Finding, Has, Absent, Broken}
-use Rattle.rule_lines.specs.declared.instr.Instr.{Instr}
+use Rattle.rule_lookup.specs.Codes.{decoded}
+use Rattle.rule_lookup.specs.Lookups.{Finding, Has, Absent, Broken}
+use Rattle.rule_lookup.specs.declared.instr.Instr.{Instr}
 use Rattle.rule_lookup.specs.declared.decision.DecideFault.{DecideFault}
 use Rattle.rule_lookup.specs.declared.decision.Decision.{Decision}
 use Rattle.rule_lookup.specs.declared.decision.WhenMissing.TheVariants.{Deny as DenyMissing}

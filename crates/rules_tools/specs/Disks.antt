@@ -2,7 +2,7 @@
 use Rattle.std.specs.Prelude.{◌≡◌, ◌≤◌, ⊤, ℕ, Bool, true, false, Result, Ok, Err}
 use Rattle.dir_calls.specs.declared.fault.DirFault.TheVariants.{Device}
 use Rattle.rules_install.specs.Steps.{HasFailed}
-use Rattle.rules_install.specs.declared.Phase.TheVariants.{Fresh}
+use Rattle.dir_calls.specs.declared.phase.Phase.TheVariants.{Fresh}
 use Rattle.rules_install.specs.declared.fault.InstallFault.{InstallFault}
 use Rattle.rules_install.specs.declared.fault.InstallFault.TheVariants.{Disk, OutOfMemory}
 

@@ -8,7 +8,7 @@ use Rattle.cdb_files.specs.Image.{finished_length}
 use Rattle.cdb_files.specs.Making.{limit_of}
 use Rattle.cdb_files.specs.Compiled.{Compiled, stored}
 use Rattle.rule_lines.specs.Faults.{IsAccepted, fault_of}
-use Rattle.rule_lines.specs.Pairs.{pairs_of}
+use Rattle.rule_lookup.specs.Pairs.{pairs_of}
 use Rattle.rule_lines.specs.declared.fault.LineKind.TheVariants.{LongText as TextIsLong}
 use Rattle.rules_install.specs.Filled.{whole_file}
 use Rattle.rules_install.specs.Installing.{Installing, HasForGood}

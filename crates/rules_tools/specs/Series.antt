@@ -6,7 +6,7 @@ use Rattle.dir_calls.specs.Directory.{Directory}
 use Rattle.dir_calls.specs.declared.fault.DirFault.TheVariants.{Device as DeviceFault}
 use Rattle.rules_install.specs.Installing.{Installing}
 use Rattle.rules_install.specs.Series.{IsSeries, MakesStep}
-use Rattle.rules_install.specs.declared.Phase.TheVariants.{Fresh}
+use Rattle.dir_calls.specs.declared.phase.Phase.TheVariants.{Fresh}
 use Rattle.rules_install.specs.declared.fault.InstallFault.{InstallFault}
 use Rattle.rules_install.specs.declared.fault.InstallFault.TheVariants.{Disk, OutOfMemory as NoMemory}
 use Rattle.rules_tools.specs.declared.tcprules.TcprulesFault.{TcprulesFault}

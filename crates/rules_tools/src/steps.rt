@@ -10,8 +10,8 @@ ghost use Rattle.rules_install.specs.Whole.{IsDeviceFault, RunKeeps, RunLasts};
 ghost use Rattle.rules_tools.specs.Disks.{EndsOnDisk, IsAtFresh};
 ghost use Rattle.rules_tools.specs.Series.{Begins, IsBegun, MakesSeries};
 
-use dir_calls::Dir;
-use rules_install::{Install, InstallFault, Phase, whole};
+use dir_calls::{Dir, Phase};
+use rules_install::{Install, InstallFault, whole};
 use std::alloc::Global;
 
 /// Makes all steps of an installation of which none was made. Behind the first one, which makes the scratch file, all changes of names are made

@@ -17,8 +17,9 @@ use byte_text::NotingStream;
 use cdb_files::CdbFile;
 use dir_calls::{Dir, DirFault, Name, NameFault};
 use dir_disk::FolderFault;
-use rule_lines::FindFault;
-use rule_lookup::{DecideFault, Decision, Found, Peer, WhenMissing, append_answer, decide};
+use rule_lookup::{
+    DecideFault, Decision, FindFault, Found, Peer, WhenMissing, append_answer, decide,
+};
 use std::alloc::{AllocError, Global};
 use std::error::Error;
 use std::fmt;

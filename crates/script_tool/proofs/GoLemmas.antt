@@ -1,9 +1,9 @@
 -- Going on with the installation that was begun, up to a phase.
 use Rattle.std.proofs.Common.{◌≡◌, Option, None, Some, sym, ap, subst, ◌∙◌}
 use Rattle.std.specs.Option.{option_map}
-use Rattle.dir_calls.specs.declared.mem_dir.MemDir.{MemDir}
-use Rattle.dir_calls.specs.MemDir.{mem_state}
-use Rattle.rules_install.specs.declared.Phase.{Phase}
+use Rattle.memory_dirs.specs.declared.mem_dir.MemDir.{MemDir}
+use Rattle.memory_dirs.specs.MemDir.{mem_state}
+use Rattle.dir_calls.specs.declared.phase.Phase.{Phase}
 use Rattle.script_tool.specs.declared.simulation.Progress.{Progress}
 use Rattle.script_tool.specs.declared.simulation.Simulation.{Simulation}
 use Rattle.script_tool.specs.Kept.{HasTexts, IsAt, IsInstalling, MayBeInstalling}

@@ -6,7 +6,7 @@ use Rattle.std.proofs.lemmas.Result.{IfOk-weaker}
 use Rattle.dir_calls.specs.Directory.{Directory}
 use Rattle.rule_lines.specs.declared.limits.Limits.{Limits}
 use Rattle.rule_lines.specs.Faults.{IsAccepted}
-use Rattle.rule_lines.specs.Pairs.{pairs_of}
+use Rattle.rule_lookup.specs.Pairs.{pairs_of}
 use Rattle.rules_install.specs.declared.fault.InstallFault.{InstallFault}
 use Rattle.rules_install.specs.declared.install.Install.{Install}
 use Rattle.rules_install.specs.Installing.{Fits, Installing, begun}

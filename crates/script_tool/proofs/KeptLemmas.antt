@@ -7,7 +7,7 @@ use Rattle.std.specs.Str.{chars, is_utf8}
 use lib.Utf8.{encode}
 use Rattle.dir_calls.specs.declared.choice.Choice.{Choice}
 use Rattle.dir_calls.specs.declared.choice.Choice.TheVariants.{Kept, Empty, Junk}
-use Rattle.dir_calls.specs.Folder.{empty_directory}
+use Rattle.memory_dirs.specs.Folder.{empty_directory}
 use Rattle.dir_calls.specs.NameTable.{after_changes}
 use Rattle.dir_calls.specs.Names.{name_fault}
 use Rattle.dir_calls.specs.Stop.{chosen_changes}

@@ -4,7 +4,7 @@ use Rattle.std.specs.Prelude.{codes}
 use Rattle.std.specs.Fmt.{digits}
 use Rattle.std.specs.Str.{is_utf8, chars}
 use lib.Utf8.{encode}
-use Rattle.rule_lines.specs.Lines.{lines_of}
+use Rattle.rule_lookup.specs.Lines.{lines_of}
 use Rattle.rule_lookup.specs.Addresses.{ipv4_in}
 use Rattle.script_tool.specs.Logs.{log_printed}
 use Rattle.script_tool.specs.Sim.{sim}

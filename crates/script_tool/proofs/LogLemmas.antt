@@ -6,7 +6,7 @@ use Rattle.std.specs.Io.KnownBytes.{Appends, IsAtEnd}
 use Rattle.std.proofs.lemmas.Grind.{flat_map-append}
 use Rattle.std.proofs.lemmas.List.{append-nil, append_assoc}
 use Rattle.std.proofs.lemmas.List.Sums.{sum_by-append, sum_by-cons}
-use Rattle.rule_lines.specs.Lines.{Line, lines_of}
+use Rattle.rule_lookup.specs.Lines.{Line, lines_of}
 use Rattle.script_tool.specs.declared.sim.SimFault.{SimFault}
 use Rattle.script_tool.specs.declared.sim.SimFault.TheVariants.{ReadFault, OutOfMemory}
 use Rattle.script_tool.specs.declared.verdicts.Sums.{Sums}

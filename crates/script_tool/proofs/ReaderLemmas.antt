@@ -11,8 +11,8 @@ use Rattle.std.specs.Ordering.{nat_cmp}
 use Rattle.std.specs.String.{string_bytes}
 use Rattle.dir_calls.specs.Directory.{Directory, FileState, content, names_of}
 use Rattle.script_tool.specs.Kept.{IsFileOf, Reads, Shows, sim_names}
-use Rattle.rule_lines.specs.Settings.{Assignment}
-use Rattle.rule_lines.specs.declared.instr.Verdict.TheVariants.{Deny}
+use Rattle.rule_lookup.specs.Settings.{Assignment}
+use Rattle.rule_lookup.specs.declared.instr.Verdict.TheVariants.{Deny}
 use Rattle.rule_lookup.specs.declared.decision.Found.TheVariants.{NoFile}
 use Rattle.rule_lookup.specs.Peers.{Client}
 use Rattle.script_tool.specs.Logs.{decided_now}

@@ -4,7 +4,7 @@ use Rattle.std.proofs.lemmas.List.{append-nil, append_assoc}
 use Rattle.std.proofs.lemmas.Bool.{eqb-true, lt-ltb}
 use Rattle.std.specs.Io.BufRead.{take_through, drop_through, strip_last, DropsThrough}
 use Rattle.std.specs.Io.KnownBytes.{Appends, IsAtEnd}
-use Rattle.rule_lines.specs.Lines.{Line, empty_line, lines_of, onto_line}
+use Rattle.rule_lookup.specs.Lines.{Line, empty_line, lines_of, onto_line}
 use Rattle.std.specs.Prelude.{Result, Ok, Err}
 use Rattle.script_tool.specs.declared.sim.SimFault.{SimFault}
 use Rattle.script_tool.specs.declared.sim.SimFault.TheVariants.{BadCommand, ReadFault, WriteFault, OutOfMemory}

@@ -19,8 +19,8 @@ use Rattle.dir_calls.proofs.Renames.{number_is}
 use Rattle.rules_install.specs.Filled.{whole_file}
 use Rattle.rules_install.specs.Installing.{Installing, synced_file}
 use Rattle.rules_install.specs.Steps.{IsCallOf}
-use Rattle.rules_install.specs.declared.Phase.{Phase}
-use Rattle.rules_install.specs.declared.Phase.TheVariants.{Fresh, Filling, Synced, Named, Done}
+use Rattle.dir_calls.specs.declared.phase.Phase.{Phase}
+use Rattle.dir_calls.specs.declared.phase.Phase.TheVariants.{Fresh, Filling, Synced, Named, Done}
 use Rattle.rules_install.proofs.StepFits.{Numbered, numbered}
 use Rattle.script_tool.specs.Kept.{HasTexts, IsFileOf, Shows, sim_names}
 use Rattle.script_tool.specs.Texts.{Change, Texts, after_change, at_phase, changed, left_by, stopped}

@@ -4,17 +4,17 @@ use Rattle.std.specs.FinMap.{get}
 use Rattle.std.specs.BTreeMap.{get_by_text}
 use Rattle.dir_calls.specs.declared.choice.Choice.{Choice}
 use Rattle.dir_calls.specs.Directory.{Directory, FileState, names_of}
-use Rattle.dir_calls.specs.MemDir.{mem_state}
+use Rattle.memory_dirs.specs.MemDir.{mem_state}
 use Rattle.dir_calls.specs.NameTable.{Names, after_changes}
 use Rattle.dir_calls.specs.Stop.{chosen_changes}
 use Rattle.cdb_files.specs.Compiled.{Compiled}
 use Rattle.rule_lines.specs.Faults.{IsAccepted}
-use Rattle.rule_lines.specs.Pairs.{pairs_of}
+use Rattle.rule_lookup.specs.Pairs.{pairs_of}
 use Rattle.rules_install.specs.Filled.{fillings_left}
 use Rattle.rules_install.specs.Installing.{Installing, Fits, file_among, next_phase}
 use Rattle.rules_install.specs.Installs.{installing}
 use Rattle.rules_install.specs.NamePair.{NamePair}
-use Rattle.rules_install.specs.declared.Phase.{Phase}
+use Rattle.dir_calls.specs.declared.phase.Phase.{Phase}
 use Rattle.script_tool.specs.declared.simulation.Simulation.{Simulation}
 use Rattle.script_tool.specs.declared.simulation.Progress.{Progress}
 use Rattle.rules_tools.specs.Reviews.{profile}

@@ -1,9 +1,9 @@
 -- What `rulesim` prints for the log of a server: what the text that stands would have decided otherwise.
 use Rattle.std.specs.Prelude.{ℕ, Bool, true, false, List, [], ◌++◌, flat_map, count_by, Option, Some, None, nat_lt, codes, decimal, if◌then◌else◌}
 use Rattle.std.specs.Net.Text.{ipv4_text}
-use Rattle.rule_lines.specs.declared.instr.Verdict.{Verdict}
-use Rattle.rule_lines.specs.declared.instr.Verdict.TheVariants.{Allow, Deny}
-use Rattle.rule_lines.specs.Lines.{Line}
+use Rattle.rule_lookup.specs.declared.instr.Verdict.{Verdict}
+use Rattle.rule_lookup.specs.declared.instr.Verdict.TheVariants.{Allow, Deny}
+use Rattle.rule_lookup.specs.Lines.{Line}
 use Rattle.rule_lookup.specs.declared.decision.Decision.{Decision}
 use Rattle.rule_lookup.specs.declared.decision.Found.{Found}
 use Rattle.rule_lookup.specs.declared.decision.Found.TheVariants.{Address, Default, NoFile}

@@ -5,12 +5,12 @@ use Rattle.cdb_files.specs.Image.{finished_length}
 use Rattle.cdb_files.specs.Compiled.{stored}
 use Rattle.rule_lines.specs.declared.fault.LineFault.{LineFault}
 use Rattle.rule_lines.specs.Faults.{fault_of}
-use Rattle.rule_lines.specs.Lines.{Line, lines_of}
-use Rattle.rule_lines.specs.Pairs.{pairs_of}
+use Rattle.rule_lookup.specs.Lines.{Line, lines_of}
+use Rattle.rule_lookup.specs.Pairs.{pairs_of}
 use Rattle.rule_lookup.specs.Decisions.{decision_of}
 use Rattle.rule_lookup.specs.Peers.{Client}
-use Rattle.rules_install.specs.declared.Phase.{Phase}
-use Rattle.rules_install.specs.declared.Phase.TheVariants.{Done}
+use Rattle.dir_calls.specs.declared.phase.Phase.{Phase}
+use Rattle.dir_calls.specs.declared.phase.Phase.TheVariants.{Done}
 use Rattle.server_events.specs.declared.event.Event.{Event}
 use Rattle.server_events.specs.Reports.{first_illegal, report_of}
 use Rattle.server_events.specs.ServerState.{start as server_at_start}

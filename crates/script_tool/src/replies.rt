@@ -2,9 +2,9 @@
 ghost use Rattle.std.specs.Prelude.{◌≡◌, ◌++◌, OnOk, codes, decimal};
 ghost use Rattle.script_tool.specs.Replies.{numbered, fault_text, reached_line, report_line, illegal_line};
 
+use dir_calls::Phase;
 use itoa::Buffer;
 use rule_lines::{LineFault, LineKind};
-use rules_install::Phase;
 use server_events::Report;
 use std::alloc::AllocError;
 

@@ -6,7 +6,7 @@ ghost use Rattle.script_tool.specs.Commands.{Leads};
 ghost use Rattle.script_tool.specs.Kept.{IsAt};
 ghost use Rattle.script_tool.specs.Sim.{State, command_at, run_log, sim, start, takes_log, Prints};
 ghost use Rattle.script_words.specs.Readings.{meaning};
-ghost use Rattle.rule_lines.specs.Lines.{lines_of};
+ghost use Rattle.rule_lookup.specs.Lines.{lines_of};
 
 use crate::simulation::Simulation;
 use crate::verdicts::compare_log;

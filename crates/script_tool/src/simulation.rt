@@ -1,9 +1,9 @@
 //! The state that a script of `rulesim` leads to, command by command.
 ghost use Rattle.std.specs.Prelude.{◌≡◌, ◌≢◌, ◌++◌, ◌<◌, None, Some, OnOk, IfOk, List, [], ℕ, Option};
 ghost use Rattle.rule_lookup.specs.Answers.{answer_lines};
-ghost use Rattle.dir_calls.specs.MemDir.{mem_state};
+ghost use Rattle.memory_dirs.specs.MemDir.{mem_state};
 ghost use Rattle.dir_calls.specs.Names.{name_fault};
-ghost use Rattle.rule_lines.specs.Pairs.{pairs_of};
+ghost use Rattle.rule_lookup.specs.Pairs.{pairs_of};
 ghost use Rattle.rule_lookup.specs.Decisions.{decision_of};
 ghost use Rattle.rules_install.specs.Installing.{begun};
 ghost use Rattle.rules_install.specs.Installs.{installing};
@@ -19,12 +19,15 @@ ghost use Rattle.script_tool.specs.Texts.{Texts, at_phase, position_of};
 
 use crate::replies::{append_fault, append_illegal, append_reached, append_report};
 use cdb_files::CdbFile;
-use dir_calls::{Choice, Dir, DirFault, MemDir, MemFile, Name, NameFault};
-use rule_lines::{Limits, Settings, Verdict};
-use rule_lookup::{DecideFault, Decision, Found, Peer, WhenMissing, append_answer, decide};
+use dir_calls::{Choice, Dir, DirFault, Name, NameFault, Phase};
+use memory_dirs::{MemDir, MemFile};
+use rule_lines::Limits;
+use rule_lookup::{
+    DecideFault, Decision, Found, Peer, Settings, Verdict, WhenMissing, append_answer, decide,
+};
 use rules_install::laws::decides;
 use rules_install::whole::prepare;
-use rules_install::{FileNames, Install, InstallFault, Phase, SameName};
+use rules_install::{FileNames, Install, InstallFault, SameName};
 use script_words::Command;
 use server_events::laws::first_illegal;
 use server_events::{Event, ReplayFault, replay};

@@ -1,6 +1,6 @@
 //! What `rulesim` prints for the log of a server: the verdicts that would be others under the rules that stand.
 ghost use Rattle.std.specs.Prelude.{◌≡◌, ◌++◌, ℕ, List, Option, Some, None, true, OnOk, IfOk, IfSome};
-ghost use Rattle.rule_lines.specs.Lines.{lines_of};
+ghost use Rattle.rule_lookup.specs.Lines.{lines_of};
 ghost use Rattle.rule_lookup.specs.Peers.{fits, given};
 ghost use Rattle.script_tool.specs.Judging.{HasRoom, Judges};
 ghost use Rattle.script_tool.specs.Kept.{Reads};
@@ -12,8 +12,7 @@ ghost use Rattle.script_words.specs.Meanings.{client_of, told_of};
 use crate::sim::{MOST_LINES, SimFault, read_fault, without_feed};
 use crate::simulation::Standing;
 use byte_text::{push_address, push_number, push_text};
-use rule_lines::Verdict;
-use rule_lookup::{Decision, Found, Peer, PeerFault};
+use rule_lookup::{Decision, Found, Peer, PeerFault, Verdict};
 use script_words::{End, LogLine, VerdictLine, read_line};
 use std::alloc::{AllocError, Global};
 use std::io::{BufRead, Write};

@@ -3,8 +3,8 @@ use Rattle.std.proofs.Common.{◌≡◌, ◌≢◌, ℕ, ◌<◌, true, false, e
 use Rattle.std.specs.List.{list_all}
 use Rattle.std.proofs.lemmas.Bool.{and_parts, le-leb, lt-ltb, ltb-true}
 use Rattle.std.proofs.lemmas.Bool.Decides.{nat_tests}
-use Rattle.rule_lines.specs.Lines.{has_byte}
-use Rattle.rule_lines.specs.declared.instr.Verdict.{Verdict}
+use Rattle.rule_lookup.specs.Lines.{has_byte}
+use Rattle.rule_lookup.specs.declared.instr.Verdict.{Verdict}
 use Rattle.rule_lookup.specs.Peers.{fits}
 use Rattle.script_words.specs.LogLines.{IsToldWhole, Reading, TellsPeer, Told, is_plain, tells_or_not, told_in, words_of}
 use Rattle.script_words.proofs.LineLemmas.{told-read}

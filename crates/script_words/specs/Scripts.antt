@@ -7,7 +7,7 @@ use Rattle.dir_calls.specs.declared.choice.Choice.{Choice}
 use Rattle.dir_calls.specs.declared.choice.Choice.TheVariants.{Kept, Empty, Junk}
 use Rattle.rule_lookup.specs.Addresses.{ipv4_in}
 use Rattle.rule_lookup.specs.Peers.{Client, is_peer_name}
-use Rattle.rules_install.specs.declared.Phase.{Phase}
+use Rattle.dir_calls.specs.declared.phase.Phase.{Phase}
 use Rattle.server_events.specs.declared.event.Event.{Event}
 use Rattle.script_words.specs.Events.{alone, event_in, limits_in, only_phase}
 

@@ -7,9 +7,8 @@ ghost use Rattle.script_words.specs.Events.{alone, decided_as, decision_with, dr
 
 use crate::script::LineEnd;
 use child_jobs::{DropCause, StartFault, Status};
-use rule_lines::{Settings, Verdict};
-use rule_lookup::{Decision, Found, Peer, PeerFault, parse_address};
-use rules_install::Phase;
+use dir_calls::Phase;
+use rule_lookup::{Decision, Found, Peer, PeerFault, Settings, Verdict, parse_address};
 use server_events::Event;
 use server_words::number_in;
 use std::alloc::Global;

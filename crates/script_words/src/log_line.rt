@@ -6,8 +6,7 @@ ghost use Rattle.script_words.specs.Meanings.{client_of, end_of, meaning, told_o
 
 use crate::parts::{four_parts, three_parts};
 use itoa::Buffer;
-use rule_lines::Verdict;
-use rule_lookup::parse_address;
+use rule_lookup::{Verdict, parse_address};
 use server_words::number_in;
 use std::str;
 

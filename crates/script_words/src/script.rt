@@ -7,9 +7,8 @@ ghost use Rattle.script_words.specs.Scripts.{AddEvent, Ask, Open, Stop, To, even
 ghost use Rattle.script_words.specs.declared.script.LineEnd.TheVariants.{OutOfMemory};
 
 use crate::event_words::{limit_in, only_phase, read_event};
-use dir_calls::Choice;
+use dir_calls::{Choice, Phase};
 use rule_lookup::{Peer, PeerFault, parse_address};
-use rules_install::Phase;
 use server_events::Event;
 use std::alloc::{AllocError, Global};
 

@@ -1,9 +1,9 @@
 -- Once an installation is done, whatever a stop leaves has its text.
 use Rattle.std.proofs.Common.{◌≡◌, ◌≤◌, ◌+◌, ℕ, List, length, sym, ◌∙◌, ap, subst, arith}
 use Rattle.std.specs.Prelude.{slice_get, Option, Some, max}
-use Rattle.rule_lines.specs.Pairs.{Rule}
-use Rattle.rules_install.specs.declared.Phase.{Phase}
-use Rattle.rules_install.specs.declared.Phase.TheVariants.{Done}
+use Rattle.rule_lookup.specs.Pairs.{Rule}
+use Rattle.dir_calls.specs.declared.phase.Phase.{Phase}
+use Rattle.dir_calls.specs.declared.phase.Phase.TheVariants.{Done}
 use Rattle.dir_calls.specs.Directory.{Directory, content}
 use Rattle.server_events.specs.Headline.{Reaches}
 use Rattle.server_events.specs.declared.event.Event.{Event}

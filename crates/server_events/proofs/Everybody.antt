@@ -6,10 +6,10 @@ use Rattle.cdb_files.specs.Compiled.{stored}
 use Rattle.cdb_files.specs.Image.{finished_length, image_of}
 use Rattle.cdb_files.proofs.Joined.{written}
 use Rattle.rule_lines.specs.Faults.{IsAccepted}
-use Rattle.rule_lines.specs.Pairs.{Rule, pairs_of}
+use Rattle.rule_lookup.specs.Pairs.{Rule, pairs_of}
 use Rattle.rule_lines.specs.Texts.{AreOfText}
-use Rattle.rule_lines.specs.declared.instr.Verdict.{Verdict}
-use Rattle.rule_lines.specs.declared.instr.Verdict.TheVariants.{Allow, Deny}
+use Rattle.rule_lookup.specs.declared.instr.Verdict.{Verdict}
+use Rattle.rule_lookup.specs.declared.instr.Verdict.TheVariants.{Allow, Deny}
 use Rattle.rule_lines.specs.declared.limits.Limits.{Limits}
 use Rattle.server_events.specs.Witness.{for_everybody}
 use Rattle.server_events.specs.Worlds.{IsOf}

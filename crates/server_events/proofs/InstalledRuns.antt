@@ -15,13 +15,13 @@ use Rattle.dir_calls.proofs.Lasting.{image_has, settled_lasts}
 use Rattle.dir_calls.proofs.Renames.{moved_file}
 use Rattle.dir_calls.proofs.Scratches.{written}
 use Rattle.dir_calls.proofs.Scratches.{appended_is}
-use Rattle.rule_lines.specs.Pairs.{Rule}
+use Rattle.rule_lookup.specs.Pairs.{Rule}
 use Rattle.rule_lines.proofs.KnownLemmas.{AreRules-of_text}
 use Rattle.rule_lookup.specs.Decisions.{decision_by, decision_in}
 use Rattle.rule_lookup.specs.Peers.{Client}
 use Rattle.rule_lookup.proofs.ListedLemmas.{decision_by-listed}
-use Rattle.rules_install.specs.declared.Phase.{Phase}
-use Rattle.rules_install.specs.declared.Phase.TheVariants.{Fresh, Filling, Synced, Named, Done}
+use Rattle.dir_calls.specs.declared.phase.Phase.{Phase}
+use Rattle.dir_calls.specs.declared.phase.Phase.TheVariants.{Fresh, Filling, Synced, Named, Done}
 use Rattle.server_events.specs.declared.event.Event.{Event}
 use Rattle.server_events.specs.declared.event.Event.TheVariants.{Stepped}
 use Rattle.server_events.specs.ServerState.{ServerState, phase_after}

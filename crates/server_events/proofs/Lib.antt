@@ -28,9 +28,5 @@ pub mod TwoTexts
 pub mod WholeText
 pub mod WithinLemmas
 pub mod WovenSteps
-pub mod Meeting
-pub mod Leading
-pub mod Stopping
-pub mod Along
 pub mod Countings
 pub mod ReportSteps

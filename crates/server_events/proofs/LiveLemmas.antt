@@ -6,7 +6,7 @@ use Rattle.std.proofs.lemmas.Bool.Decides.{nat_tests}
 use Rattle.std.proofs.lemmas.List.FromFn.{map-range_with_len_more}
 use Rattle.std.proofs.lemmas.List.Recursion.{is_count_by}
 use Rattle.rule_lookup.specs.Peers.{Client}
-use Rattle.rules_install.specs.declared.Phase.{Phase}
+use Rattle.dir_calls.specs.declared.phase.Phase.{Phase}
 use Rattle.server_events.specs.declared.event.Stage.{Stage}
 use Rattle.server_events.specs.declared.event.Stage.TheVariants as stage
 use Rattle.server_events.specs.declared.event.Event.{Event}

@@ -15,13 +15,13 @@ use Rattle.dir_calls.specs.Stop.{stopped, stopped_file}
 use Rattle.dir_calls.proofs.Lasting.{after_keeps}
 use Rattle.dir_calls.proofs.NamesOf.{get-insert_same}
 use Rattle.dir_calls.proofs.Stops.{stopped_is}
-use Rattle.rule_lines.specs.declared.instr.Verdict.{Verdict}
-use Rattle.rule_lines.specs.declared.instr.Verdict.TheVariants.{Allow, Deny}
+use Rattle.rule_lookup.specs.declared.instr.Verdict.{Verdict}
+use Rattle.rule_lookup.specs.declared.instr.Verdict.TheVariants.{Allow, Deny}
 use Rattle.rule_lookup.specs.Decisions.{by_rule, decision_from, decision_in}
 use Rattle.rule_lookup.specs.declared.decision.Decision.{Decision}
 use Rattle.rule_lookup.specs.declared.decision.WhenMissing.TheVariants.{Deny as DenyMissing}
 use Rattle.child_jobs.specs.declared.outcome.DropCause.TheVariants.{Denied}
-use Rattle.rules_install.specs.declared.Phase.TheVariants.{Fresh, Filling, Named, Done}
+use Rattle.dir_calls.specs.declared.phase.Phase.TheVariants.{Fresh, Filling, Named, Done}
 use Rattle.server_events.specs.declared.event.Event.TheVariants.{Admitted, Opened, Decided, Started, Dropped, Stepped, StepFailed, Stop}
 use Rattle.server_events.specs.Headline.{Reaches}
 use Rattle.server_events.specs.ServerState.{ServerState, start, after as after_event}

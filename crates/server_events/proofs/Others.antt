@@ -3,7 +3,7 @@ use Rattle.std.proofs.Common.{◌≡◌, ◌≢◌, ⊎_elim, ℕ, zero, suc, Li
 use Rattle.std.specs.Prelude.{slice_get, Option, None, Some, option_and_then}
 use Rattle.std.specs.Option.{option_map}
 use Rattle.std.specs.FinMap.{get}
-use Rattle.rule_lines.specs.Pairs.{Rule}
+use Rattle.rule_lookup.specs.Pairs.{Rule}
 use Rattle.dir_calls.specs.Calls.{settles, after, taken_from, without}
 use Rattle.dir_calls.specs.NameTable.{CanBeLeft, NameChange, NameTable, Names, after_change, current, push, puts, takes}
 use Rattle.dir_calls.specs.Directory.{Directory, FileState, content, names_of, number_of}

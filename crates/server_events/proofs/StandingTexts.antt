@@ -3,7 +3,7 @@ use Rattle.std.proofs.Common.{◌≡◌, ◌≤◌, true, ℕ, zero, suc, List, 
 use Rattle.std.specs.Prelude.{slice_get, Option, None, Some, option_and_then}
 use Rattle.std.specs.Option.{option_map}
 use Rattle.std.specs.FinMap.{get}
-use Rattle.rule_lines.specs.Pairs.{Rule}
+use Rattle.rule_lookup.specs.Pairs.{Rule}
 use Rattle.dir_calls.specs.NameTable.{Names, NameTable, CanBeLeft, current, all_settled}
 use Rattle.dir_calls.specs.Directory.{Directory, FileState, KeepsSynced, content, names_of, number_of}
 use Rattle.dir_calls.specs.Images.{IsImage, MayHaveName}

@@ -1,7 +1,7 @@
 -- What a stop leaves is a start.
 use Rattle.std.proofs.Common.{◌≡◌, ℕ, List, [], ◌∷◌, Option, Some, None, refl, sym, ap, subst, arith}
 use Rattle.std.specs.Prelude.{slice_get, option_and_then}
-use Rattle.rules_install.specs.declared.Phase.{Phase}
+use Rattle.dir_calls.specs.declared.phase.Phase.{Phase}
 use Rattle.dir_calls.specs.Directory.{content, number_of}
 use Rattle.server_events.specs.declared.event.Event.{Event}
 use Rattle.server_events.specs.declared.event.Event.TheVariants.{Stop}

@@ -8,8 +8,8 @@ use Rattle.dir_calls.specs.Directory.{Directory, FileState, content}
 use Rattle.dir_calls.specs.Calls.{Call, makes, appends, renames, settles, after}
 use Rattle.dir_calls.specs.Outcomes.{Fails}
 use Rattle.dir_calls.proofs.Lasting.{after_keeps}
-use Rattle.rule_lines.specs.declared.instr.Verdict.TheVariants.{Allow, Deny}
-use Rattle.rules_install.specs.declared.Phase.TheVariants.{Fresh, Filling, Synced, Named}
+use Rattle.rule_lookup.specs.declared.instr.Verdict.TheVariants.{Allow, Deny}
+use Rattle.dir_calls.specs.declared.phase.Phase.TheVariants.{Fresh, Filling, Synced, Named}
 use Rattle.server_events.specs.declared.event.Event.TheVariants.{Admitted, Opened, Decided, Stepped, StepFailed}
 use Rattle.server_events.specs.ServerState.{ServerState, start, after as after_event}
 use Rattle.server_events.specs.Steps.{Legal, Outside, Step, none, more}

@@ -11,14 +11,14 @@ use Rattle.dir_calls.specs.Directory.{Directory, content}
 use Rattle.dir_calls.specs.Calls.{settles, after}
 use Rattle.dir_calls.specs.Stop.{stopped}
 use Rattle.dir_calls.proofs.Stops.{stopped_is}
-use Rattle.rule_lines.specs.Pairs.{Rule}
-use Rattle.rule_lines.specs.declared.instr.Verdict.{Verdict}
-use Rattle.rule_lines.specs.declared.instr.Verdict.TheVariants.{Allow, Deny}
+use Rattle.rule_lookup.specs.Pairs.{Rule}
+use Rattle.rule_lookup.specs.declared.instr.Verdict.{Verdict}
+use Rattle.rule_lookup.specs.declared.instr.Verdict.TheVariants.{Allow, Deny}
 use Rattle.rule_lookup.specs.Decisions.{by_rule, decision_from, decision_in}
 use Rattle.rule_lookup.specs.declared.decision.Decision.{Decision}
 use Rattle.rule_lookup.specs.declared.decision.WhenMissing.TheVariants.{Deny as DenyMissing}
 use Rattle.child_jobs.specs.declared.outcome.DropCause.TheVariants.{Denied}
-use Rattle.rules_install.specs.declared.Phase.TheVariants.{Named, Done}
+use Rattle.dir_calls.specs.declared.phase.Phase.TheVariants.{Named, Done}
 use Rattle.server_events.specs.declared.event.Event.TheVariants.{Admitted, Opened, Decided, Started, Retired, Dropped, Stop}
 use Rattle.server_events.specs.Headline.{Reaches}
 use Rattle.server_events.specs.Live.{retired_of}

@@ -3,9 +3,9 @@ use Rattle.std.proofs.Common.{◌≡◌, ◌≢◌, ◌≤◌, ◌<◌, ◌+◌,
 use Rattle.std.specs.Prelude.{slice_get, Option, None, Some, is_some, max, option_and_then}
 use Rattle.std.specs.FinMap.{get}
 use Rattle.std.proofs.lemmas.List.{length_push}
-use Rattle.rule_lines.specs.Pairs.{Rule}
-use Rattle.rules_install.specs.declared.Phase.{Phase}
-use Rattle.rules_install.specs.declared.Phase.TheVariants.{Fresh, Filling, Synced, Named, Done}
+use Rattle.rule_lookup.specs.Pairs.{Rule}
+use Rattle.dir_calls.specs.declared.phase.Phase.{Phase}
+use Rattle.dir_calls.specs.declared.phase.Phase.TheVariants.{Fresh, Filling, Synced, Named, Done}
 use Rattle.dir_calls.specs.NameTable.{Names, NameTable, puts, current}
 use Rattle.dir_calls.specs.Directory.{Directory, FileState, content, number_of}
 use Rattle.dir_calls.specs.Calls.{Call, makes, syncs, renames, settles, after, longer, patched, lasting, with_file, with_scratch, without, cleared}

@@ -1,8 +1,8 @@
 -- The steps of a server by itself and of installers by themselves are those of the world that they share.
 use Rattle.std.proofs.Common.{◌≡◌, ℕ, true, List, ◌∷◌, Option, None, refl, sym, ap, subst, ◌∙◌}
 use Rattle.dir_calls.specs.Directory.{Directory}
-use Rattle.rules_install.specs.declared.Phase.{Phase}
-use Rattle.rules_install.specs.declared.Phase.TheVariants.{Fresh, Filling, Synced, Named, Done}
+use Rattle.dir_calls.specs.declared.phase.Phase.{Phase}
+use Rattle.dir_calls.specs.declared.phase.Phase.TheVariants.{Fresh, Filling, Synced, Named, Done}
 use Rattle.server_events.specs.declared.event.Event.{Event}
 use Rattle.server_events.specs.declared.event.Event.TheVariants.{Stepped, StepFailed}
 use Rattle.server_events.specs.Processes.{InstallerSteps, KeepsInstallers, KeepsServer, ServerSteps, Woven, is_connections, is_installations, none, serves, installs, stops, outside, of_installers, of_server, of_connections, of_installations}

@@ -1,6 +1,6 @@
 -- A machine that is started again.
 use Rattle.std.specs.Prelude.{◌≡◌, ◌≤◌, ℕ, List, [], ◌∷◌, slice_get, Option, Some, None}
-use Rattle.rule_lines.specs.Pairs.{Rule}
+use Rattle.rule_lookup.specs.Pairs.{Rule}
 use Rattle.server_events.specs.ServerState.{start}
 use Rattle.server_events.specs.Worlds.{IsStart, StandsFor, World, standing}
 

@@ -1,11 +1,11 @@
 -- What the headline says.
 use Rattle.std.specs.Prelude.{◌≡◌, ◌++◌, ◌∷◌, ℕ, Bool, List, Option, Some, None}
 use Rattle.dir_calls.specs.Directory.{Directory, content, number_of}
-use Rattle.rule_lines.specs.Pairs.{Rule}
+use Rattle.rule_lookup.specs.Pairs.{Rule}
 use Rattle.rule_lookup.specs.Decisions.{decision_in, without_file}
 use Rattle.rule_lookup.specs.Peers.{Client}
 use Rattle.rule_lookup.specs.declared.decision.Decision.{Decision}
-use Rattle.rules_install.specs.declared.Phase.TheVariants.{Done}
+use Rattle.dir_calls.specs.declared.phase.Phase.TheVariants.{Done}
 use Rattle.child_jobs.specs.Child.{environment_of}
 use Rattle.child_jobs.specs.Ends.{LocalEnd}
 use Rattle.child_jobs.specs.Variables.{Variables}

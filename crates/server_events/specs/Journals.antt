@@ -1,6 +1,6 @@
 -- What a journal tells: the report and the number of the events that were noted, and what it stores of them.
 use Rattle.std.specs.Prelude.{◌≡◌, ◌<◌, ◌+◌, ◌-◌, ◌^◌, ℕ, List, [], ◌∷◌, ◌++◌, length, take, max, min, Bool, true, Option, ⊤, if◌then◌else◌}
-use Rattle.rule_lines.specs.Pairs.{Rule}
+use Rattle.rule_lookup.specs.Pairs.{Rule}
 use Rattle.server_events.specs.declared.event.Event.{Event}
 use Rattle.server_events.specs.declared.report.Report.{Report}
 use Rattle.server_events.specs.Reports.{report_of}

@@ -14,8 +14,6 @@ pub mod Headline
 pub mod Taken
 pub mod Within
 pub mod Witness
-pub mod UnderWay
-pub mod Series
 pub mod JournalParts
 pub mod Journals
 pub use Rattle.rule_lookup.specs.Decisions

@@ -1,10 +1,10 @@
 -- The state that events lead to, and which events may happen there.
 use Rattle.std.specs.Prelude.{◌≡◌, ℕ, ◌+◌, List, [], ◌∷◌, ◌++◌, Bool, true, false, ◌&&◌, ◌==◌, nat_lt, Option, Some, None, length, if◌then◌else◌, bytes_eq}
 use Rattle.std.specs.List.{count_by}
-use Rattle.rule_lines.specs.declared.instr.Verdict.TheVariants as verdict
+use Rattle.rule_lookup.specs.declared.instr.Verdict.TheVariants as verdict
 use Rattle.rule_lookup.specs.Peers.{Client}
-use Rattle.rules_install.specs.declared.Phase.{Phase}
-use Rattle.rules_install.specs.declared.Phase.TheVariants.{Fresh, Filling, Synced, Named, Done}
+use Rattle.dir_calls.specs.declared.phase.Phase.{Phase}
+use Rattle.dir_calls.specs.declared.phase.Phase.TheVariants.{Fresh, Filling, Synced, Named, Done}
 use Rattle.rule_lookup.specs.declared.decision.Decision.{Decision}
 use Rattle.server_events.specs.declared.event.Stage.{Stage}
 use Rattle.server_events.specs.declared.event.Stage.TheVariants as stage

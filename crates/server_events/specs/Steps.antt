@@ -7,12 +7,12 @@ use Rattle.dir_calls.specs.Calls.{Call, makes, renews, appends, patches, syncs, 
 use Rattle.dir_calls.specs.Outcomes.{Passes, Fails}
 use Rattle.dir_calls.specs.Images.{IsImage}
 use Rattle.cdb_files.specs.Reading.{reading}
-use Rattle.rule_lines.specs.Pairs.{Rule}
+use Rattle.rule_lookup.specs.Pairs.{Rule}
 use Rattle.rule_lines.specs.Texts.{AreOfText}
 use Rattle.rule_lookup.specs.Decisions.{decision_from}
 use Rattle.rule_lookup.specs.Peers.{Client}
-use Rattle.rules_install.specs.declared.Phase.{Phase}
-use Rattle.rules_install.specs.declared.Phase.TheVariants.{Fresh, Filling, Synced, Named, Done}
+use Rattle.dir_calls.specs.declared.phase.Phase.{Phase}
+use Rattle.dir_calls.specs.declared.phase.Phase.TheVariants.{Fresh, Filling, Synced, Named, Done}
 use Rattle.server_events.specs.declared.event.Event.{Event}
 use Rattle.server_events.specs.ServerState.{Effect, opens, decides, comes_to, fails_at, ends_all, effect}
 use Rattle.server_events.specs.Table.{Follows, Happens}

@@ -5,7 +5,7 @@ use Rattle.dir_calls.specs.NameTable.{CanBeLeft, Names}
 use Rattle.dir_calls.specs.Directory.{Directory, FileState, content}
 use Rattle.cdb_files.specs.Compiled.{stored}
 use Rattle.cdb_files.specs.IsCdb.{IsCdb}
-use Rattle.rule_lines.specs.Pairs.{Rule}
+use Rattle.rule_lookup.specs.Pairs.{Rule}
 use Rattle.rule_lines.specs.Texts.{AreOfText}
 use Rattle.rule_lookup.specs.Peers.{Client}
 use Rattle.rule_lookup.specs.declared.decision.WhenMissing.{WhenMissing}

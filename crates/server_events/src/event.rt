@@ -1,8 +1,7 @@
 //! Events, and the stages of a connection.
 use child_jobs::{DropCause, StartFault, Status};
-use rule_lines::Verdict;
-use rule_lookup::{Decision, Peer};
-use rules_install::Phase;
+use dir_calls::Phase;
+use rule_lookup::{Decision, Peer, Verdict};
 
 /// How far a connection has come.
 #[derive(Clone, Copy, PartialEq, Eq)]

@@ -1,11 +1,10 @@
 //! The events of a server: which lists of them may happen, what they lead to, the headline, which speaks of them, and
 //! journals, where events are kept or only counted.
 //!
-//! `laws::headline` is of definitions alone; `docs/internals/HEADLINE.md` reads it phrase by phrase. Two calls tie code
-//! to it: `make_step` for each step of an installation here, and each call of a yard in `server_yard`. `rulesim` uses
-//! `replay`, which reports a legal list or names its first illegal event. What all events have in common is said of
-//! their eight effects (`specs/ServerState.antt`). `laws::taken`, `witness`, `older` and `refusals` show that the
-//! headline is not about nothing.
+//! `laws::headline` is of definitions alone; `docs/internals/HEADLINE.md` reads it phrase by phrase. Calls of `server_yard`
+//! tie code to it. `rulesim` uses `replay`, which reports a legal list or names its first illegal event. What all events
+//! have in common is said of their eight effects (`specs/ServerState.antt`). `laws::taken`, `witness`, `older` and
+//! `refusals` show that the headline is not about nothing.
 //!
 //! The report and the number of a `Journal` stay those of the history (`goes_on`). That of `tcpserver` only counts, and
 //! takes no memory. One that stores each event with its caller is for tests and audits. Room is taken before an event
@@ -14,17 +13,14 @@
 
 mod addresses;
 pub mod event;
-pub mod install_laws;
 pub mod journal;
 pub mod laws;
 pub mod report;
 pub mod same;
 pub mod state;
-pub mod step;
 
 pub use event::{Event, Stage};
 pub use journal::{Journal, Noted};
 pub use report::{ReplayFault, Report, replay};
 pub use same::is_same_event;
 pub use state::{Connection, State};
-pub use step::make_step;

@@ -4,9 +4,8 @@ ghost use Rattle.server_events.specs.declared.event.Event.TheVariants.{Admitted,
 
 use crate::Event;
 use child_jobs::{DropCause, StartFault, Status};
-use rule_lines::{Setting, Settings};
-use rule_lookup::{Decision, Found, Peer};
-use rules_install::Phase;
+use dir_calls::Phase;
+use rule_lookup::{Decision, Found, Peer, Setting, Settings};
 
 /// Whether two events are the same.
 pub fn is_same_event(one: &Event, other: &Event) -> bool

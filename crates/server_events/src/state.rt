@@ -7,9 +7,8 @@ ghost use Rattle.server_events.specs.ServerState.{start, stage_of, with_stage, w
 
 use crate::addresses::AddressCounts;
 use crate::event::{Event, Stage};
-use rule_lines::Verdict;
-use rule_lookup::Peer;
-use rules_install::Phase;
+use dir_calls::Phase;
+use rule_lookup::{Peer, Verdict};
 use std::alloc::{AllocError, Global};
 use std::collections::BTreeMap;
 use std::marker::Model;

@@ -13,8 +13,7 @@ use crate::told::Told;
 use byte_text::{append_cause, push_address, push_number, push_text, whole_or_none};
 use child_jobs::{DropCause, Local, StartFault, Status};
 use fault_hints::{Detail, Voice};
-use rule_lines::Verdict;
-use rule_lookup::Peer;
+use rule_lookup::{Peer, Verdict};
 use server_words::Level;
 use std::alloc::AllocError;
 

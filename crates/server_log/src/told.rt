@@ -1,8 +1,7 @@
 //! What a log is told of events.
 use crate::cause::Cause;
 use child_jobs::{DropCause, Local, StartFault, Status};
-use rule_lines::Verdict;
-use rule_lookup::Peer;
+use rule_lookup::{Peer, Verdict};
 
 /// An event of a connection, with what its lines need. Other events have no lines.
 #[derive(Drop)]

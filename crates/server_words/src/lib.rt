@@ -4,7 +4,7 @@
 //! `tcpserver` uses `read_server_words`, which gives what the words ask for or their first fault. `laws::first_fault`
 //! says the same as a list of checks of which the first that fails counts. Option words are read by `read_words`, whose
 //! contract is a relation with a rule for each case; by `option_laws::by_the_rules` each list of words has exactly one
-//! reading. What the server does with these values is `server_tool`'s.
+//! reading. What the server does with these values is said in `ucspi`.
 #![tactic(auto)]
 
 pub mod fault;

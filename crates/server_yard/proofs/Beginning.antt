@@ -3,12 +3,12 @@ use Rattle.std.proofs.Common.{◌≡◌, ◌<◌, ◌^◌, ℕ, List, true, fals
 use Rattle.std.specs.Prelude.{Err}
 use Rattle.dir_calls.specs.Directory.{Directory}
 use Rattle.dir_calls.specs.declared.fault.DirFault.TheVariants.{NoScratch, NoName, Device, OutOfMemory as NoMemory}
-use Rattle.server_events.specs.UnderWay as way
-use Rattle.server_events.specs.UnderWay.{IsUnderWay}
+use Rattle.server_yard.specs.UnderWay as way
+use Rattle.server_yard.specs.UnderWay.{IsUnderWay}
 use Rattle.rules_install.specs.Installing.{Installing, next_of, next_phase}
 use Rattle.rules_install.specs.Steps.{Goes, IsOfDevice}
-use Rattle.rules_install.specs.declared.Phase.{Phase}
-use Rattle.rules_install.specs.declared.Phase.TheVariants.{Fresh}
+use Rattle.dir_calls.specs.declared.phase.Phase.{Phase}
+use Rattle.dir_calls.specs.declared.phase.Phase.TheVariants.{Fresh}
 use Rattle.rules_install.specs.declared.fault.InstallFault.{InstallFault}
 use Rattle.rules_install.specs.declared.fault.InstallFault.TheVariants.{Line, TooLarge, Disk, Over, OutOfMemory}
 use Rattle.server_events.specs.ServerState.{ServerState}

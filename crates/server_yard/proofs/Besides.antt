@@ -1,6 +1,6 @@
 -- A server's calls, over the directory as others left it, are its steps by itself.
 use Rattle.std.proofs.Common.{◌≡◌, true, List, Option, None, refl, sym, ap, subst, ◌∙◌}
-use Rattle.rules_install.specs.declared.Phase.{Phase}
+use Rattle.dir_calls.specs.declared.phase.Phase.{Phase}
 use Rattle.server_events.specs.Processes.{of_connections, is_connections, of_server}
 use Rattle.server_events.specs.ServerState.{Effect, ServerState, lets_in, opens, decides, brings, lets_go, comes_to, fails_at, ends_all, effect}
 use Rattle.server_events.specs.Steps.{MovesBy, Step}

@@ -4,14 +4,14 @@ use Rattle.std.specs.Prelude.{◌<◌, ◌^◌, IfSome, Result, Ok, Err, option_
 use Rattle.dir_calls.specs.Directory.{Directory}
 use Rattle.dir_calls.specs.declared.fault.DirFault.TheVariants.{NoScratch, NoName, Device, OutOfMemory as NoMemory}
 use Rattle.server_events.specs.Journals.{Books}
-use Rattle.server_events.specs.UnderWay as way
-use Rattle.server_events.specs.UnderWay.{IsUnderWay}
-use Rattle.rule_lines.specs.Pairs.{Rule}
+use Rattle.server_yard.specs.UnderWay as way
+use Rattle.server_yard.specs.UnderWay.{IsUnderWay}
+use Rattle.rule_lookup.specs.Pairs.{Rule}
 use Rattle.rules_install.specs.Installing.{Installing, next_of, next_phase}
 use Rattle.rules_install.specs.NamePair.{NamePair}
 use Rattle.rules_install.specs.Steps.{Goes, IsOfDevice, IsSame}
-use Rattle.rules_install.specs.declared.Phase.{Phase}
-use Rattle.rules_install.specs.declared.Phase.TheVariants.{Fresh, Filling, Synced, Named, Done}
+use Rattle.dir_calls.specs.declared.phase.Phase.{Phase}
+use Rattle.dir_calls.specs.declared.phase.Phase.TheVariants.{Fresh, Filling, Synced, Named, Done}
 use Rattle.rules_install.specs.declared.fault.InstallFault.{InstallFault}
 use Rattle.rules_install.specs.declared.fault.InstallFault.TheVariants.{Line, TooLarge, Disk, Over, OutOfMemory}
 use Rattle.server_events.specs.ServerState.{ServerState, after, phase_after}

@@ -6,7 +6,7 @@ use mathlib.Core.Logic.{∥∥₁_map, ∥∥₁_elim}
 use Rattle.server_events.specs.Journals.{Books, FitsSerial, TellsOf, next_report, one_more}
 use Rattle.server_events.specs.declared.journal.Noted.{Noted}
 use Rattle.server_events.proofs.ReportSteps.{goes_on as told_on}
-use Rattle.rule_lines.specs.Pairs.{Rule}
+use Rattle.rule_lookup.specs.Pairs.{Rule}
 use Rattle.server_events.specs.declared.event.Event.{Event}
 use Rattle.server_events.specs.declared.event.Stage.{Stage}
 use Rattle.server_events.specs.ServerState.{ServerState, after, is_legal, may_happen, stage_of, start, state_after, without}

@@ -2,11 +2,11 @@
 use Rattle.std.proofs.Common.{◌≡◌, ◌<◌, ◌^◌, ℕ, List, [], ◌∷◌, ◌++◌, Bool, true, false, Option, None, Some, inl, inr, refl, sym, ap, subst, ◌∙◌}
 use Rattle.std.specs.Prelude.{◌⊎◌, ◌||◌, IfOk, IsTrue, OnErr, Result, Ok, Err, is_some, option_map}
 use Rattle.std.proofs.lemmas.Bool.{true≢false}
-use Rattle.rules_install.specs.declared.Phase.{Phase}
+use Rattle.dir_calls.specs.declared.phase.Phase.{Phase}
 use Rattle.dir_calls.specs.Directory.{Directory, content}
 use Rattle.server_events.specs.Journals.{Books, FitsSerial}
-use Rattle.rule_lines.specs.Pairs.{Rule}
-use Rattle.rule_lines.specs.Lookups.{WhereKnown}
+use Rattle.rule_lookup.specs.Pairs.{Rule}
+use Rattle.rule_lookup.specs.Lookups.{WhereKnown}
 use Rattle.rule_lookup.specs.Peers.{Client}
 use Rattle.server_events.specs.Processes.{of_connections, of_installations, is_connections, is_installations}
 use Rattle.server_events.specs.ServerState.{Effect, ServerState, lets_in, opens, decides, brings, lets_go, comes_to, fails_at, ends_all, effect}

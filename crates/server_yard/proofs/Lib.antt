@@ -1,3 +1,7 @@
+pub mod Meeting
+pub mod Leading
+pub mod Stopping
+pub mod Along
 pub mod Refusals
 pub mod RoomLemmas
 pub mod Peopled
@@ -10,7 +14,8 @@ pub mod Reached
 pub mod Installs
 pub mod Opened
 pub mod Outcomes
-pub mod Leaving
+pub mod Gone
+pub mod LeavingEvents
 pub mod Living
 pub mod Admitting
 pub mod Keeping

@@ -4,11 +4,11 @@ use Rattle.std.specs.Prelude.{Err, option_map}
 use Rattle.dir_calls.specs.Directory.{Directory}
 use Rattle.server_events.specs.Journals.{next_report, one_more, without_last}
 use Rattle.server_events.specs.declared.journal.Noted.{Noted}
-use Rattle.rule_lines.specs.Pairs.{Rule}
+use Rattle.rule_lookup.specs.Pairs.{Rule}
 use Rattle.rules_install.specs.Installing.{Installing, IsConsistent, next_of, next_phase}
 use Rattle.rules_install.specs.Steps.{Changes, Goes}
-use Rattle.rules_install.specs.declared.Phase.{Phase}
-use Rattle.rules_install.specs.declared.Phase.TheVariants.{Fresh, Filling, Synced, Named, Done}
+use Rattle.dir_calls.specs.declared.phase.Phase.{Phase}
+use Rattle.dir_calls.specs.declared.phase.Phase.TheVariants.{Fresh, Filling, Synced, Named, Done}
 use Rattle.rules_install.specs.declared.fault.InstallFault.{InstallFault}
 use Rattle.rules_install.specs.declared.fault.InstallFault.TheVariants.{Line, TooLarge, Disk, Over, OutOfMemory}
 use Rattle.server_events.specs.ServerState.{ServerState, after, may_come, may_happen}

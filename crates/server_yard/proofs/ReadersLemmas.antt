@@ -8,9 +8,9 @@ use mathlib.Core.Logic.{∥∥₁_map}
 use Rattle.dir_calls.specs.Directory.{Directory}
 use Rattle.dir_calls.specs.NameTable.{CanBeLeft, Names}
 use Rattle.server_events.specs.Journals.{Books}
-use Rattle.rule_lines.specs.Pairs.{Rule}
-use Rattle.rules_install.specs.declared.Phase.{Phase}
-use Rattle.rules_install.specs.declared.Phase.TheVariants.{Fresh, Filling, Synced, Named, Done}
+use Rattle.rule_lookup.specs.Pairs.{Rule}
+use Rattle.dir_calls.specs.declared.phase.Phase.{Phase}
+use Rattle.dir_calls.specs.declared.phase.Phase.TheVariants.{Fresh, Filling, Synced, Named, Done}
 use Rattle.server_events.specs.Headline.{Reaches}
 use Rattle.server_events.specs.Processes.{of_installations, is_installations}
 use Rattle.server_events.specs.ServerState.{Effect, lets_in, opens, decides, brings, lets_go, comes_to, fails_at, ends_all, effect}

@@ -2,7 +2,7 @@
 use Rattle.std.specs.Prelude.{◌≡◌, ◌++◌, ⊤, ℕ, List, Option, None, Some, IfSome, map}
 use Rattle.std.specs.List.{filter}
 use Rattle.server_events.specs.Journals.{Books}
-use Rattle.rule_lines.specs.Pairs.{Rule}
+use Rattle.rule_lookup.specs.Pairs.{Rule}
 use Rattle.server_events.specs.Steps.{Legal}
 use Rattle.server_events.specs.Worlds.{IsOf, IsStart, World}
 use Rattle.server_events.specs.declared.event.Event.{Event}

@@ -6,8 +6,8 @@ use Rattle.server_events.specs.Journals.{Books, TellsOf}
 use Rattle.rule_lookup.specs.declared.decision.WhenMissing.{WhenMissing}
 use Rattle.rules_install.specs.Installing.{Fits, FitsPhase, Installing}
 use Rattle.rules_install.specs.Installs.{installing}
-use Rattle.rules_install.specs.declared.Phase.{Phase}
-use Rattle.rules_install.specs.declared.Phase.TheVariants.{Fresh, Filling, Synced, Named, Done}
+use Rattle.dir_calls.specs.declared.phase.Phase.{Phase}
+use Rattle.dir_calls.specs.declared.phase.Phase.TheVariants.{Fresh, Filling, Synced, Named, Done}
 use Rattle.server_events.specs.Worlds.{RulesName}
 use Rattle.server_yard.specs.Rolls.{StoresNothing}
 use Rattle.server_yard.specs.Registers.{roll_of}

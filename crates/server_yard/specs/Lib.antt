@@ -11,5 +11,8 @@ pub mod Stepping
 pub mod Installed
 pub mod Readers
 pub mod Passes
+pub mod Leavings
 pub mod Kept
 pub mod Yards
+pub mod UnderWay
+pub mod Series

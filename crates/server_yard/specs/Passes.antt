@@ -2,7 +2,7 @@
 use Rattle.std.specs.Prelude.{◌≡◌, ℕ, Bool, List, Option, Some, None, Ok, option_map}
 use Rattle.cdb_files.specs.Reading.{reading}
 use Rattle.cdb_files.specs.Sources.{trust_of}
-use Rattle.rule_lines.specs.Lookups.{Trust, Sound, WhereKnown}
+use Rattle.rule_lookup.specs.Lookups.{Trust, Sound, WhereKnown}
 use Rattle.rule_lookup.specs.Decisions.{decision_from}
 use Rattle.rule_lookup.specs.Peers.{Client}
 use Rattle.rule_lookup.specs.declared.decision.Decision.{Decision}

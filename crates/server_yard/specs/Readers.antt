@@ -5,8 +5,8 @@ use Rattle.std.specs.FinMap.{get}
 use Rattle.dir_calls.specs.Directory.{Directory}
 use Rattle.dir_calls.specs.NameTable.{CanBeLeft, Names}
 use Rattle.server_events.specs.Journals.{Books}
-use Rattle.rule_lines.specs.Pairs.{Rule}
-use Rattle.rules_install.specs.declared.Phase.TheVariants.{Fresh, Done}
+use Rattle.rule_lookup.specs.Pairs.{Rule}
+use Rattle.dir_calls.specs.declared.phase.Phase.TheVariants.{Fresh, Done}
 use Rattle.server_events.specs.ServerState.{Effect, comes_to, effect}
 use Rattle.server_events.specs.Worlds.{IsOf, RulesName}
 use Rattle.server_events.specs.declared.event.Event.{Event}

@@ -1,7 +1,7 @@
 -- A yard as worlds see it, and the steps that its calls are.
 use Rattle.std.specs.Prelude.{◌≡◌, ◌++◌, ◌∷◌, ℕ, Bool, IsTrue, List, [], Option, None, Some, option_and_then, is_some}
 use Rattle.dir_calls.specs.Directory.{Directory, content}
-use Rattle.server_events.specs.UnderWay.{IsAsFar}
+use Rattle.server_yard.specs.UnderWay.{IsAsFar}
 use Rattle.rules_install.specs.Installing.{Installing}
 use Rattle.rule_lookup.specs.declared.decision.Decision.{Decision}
 use Rattle.server_events.specs.Headline.{Reaches}

@@ -24,7 +24,7 @@ use Rattle.server_yard.specs.declared.yard.Yard.{Yard}
 abbrev pub name_of : Option RulesName → Option (List ℕ)
 name_of rules = option_map (λ r. r.name) rules
 
--- a yard with this ledger, this directory, this journal and these files, and what their traits tell of them
+-- a yard with this ledger, this directory and these files, and what their traits tell of them
 module _ {L D F : Type 0} {p : assumptions.Ghosts L} {d : dir.Ghosts D F} {f : file.Ghosts F} where
   -- what a yard has of a world over a directory, as others left it
   abbrev pub yard_over : Directory → Yard L D F p d f → YardState

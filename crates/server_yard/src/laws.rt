@@ -1,7 +1,7 @@
 //! Laws of the definitions alone.
 ghost use Rattle.std.specs.Prelude.{◌≡◌, ◌++◌, ℕ, List, [], Option, Some, length, true};
 ghost use Rattle.server_events.specs.Journals.{Books};
-ghost use Rattle.rule_lines.specs.Pairs.{Rule};
+ghost use Rattle.rule_lookup.specs.Pairs.{Rule};
 ghost use Rattle.rule_lookup.specs.declared.decision.WhenMissing.{WhenMissing};
 ghost use Rattle.server_events.specs.Headline.{Reaches};
 ghost use Rattle.server_events.specs.Processes.{Woven, is_connections};

@@ -1,7 +1,7 @@
 //! Steps of installations, each noted as the event that it was.
 ghost use Rattle.std.specs.Prelude.{◌≡◌, ◌≢◌, ◌++◌, ◌∷◌, [], None, IsTrue, OnOk, OnErr, option_map};
 ghost use Rattle.server_events.specs.Journals.{HasOneMore, HasSameRoom};
-ghost use Rattle.server_events.specs.UnderWay.{StepLeads, Leaves};
+ghost use Rattle.server_yard.specs.UnderWay.{StepLeads, Leaves};
 ghost use Rattle.rules_install.specs.Installing.{Fits};
 ghost use Rattle.rules_install.specs.Installs.{installing, IsOpen, IsUndone, StepGoes};
 ghost use Rattle.rules_install.specs.Steps.{BlamesDevice, IsOfDevice, IsSame};
@@ -11,9 +11,10 @@ ghost use Rattle.server_yard.specs.Seating.{HasSpareRoom, KeepsSeats};
 ghost use Rattle.server_yard.specs.Stepping.{MayFail, fault_event, step_event};
 
 use crate::register::Register;
-use dir_calls::Dir;
-use rules_install::{Install, InstallFault, Phase};
-use server_events::{Event, Journal, make_step};
+use crate::step::make_step;
+use dir_calls::{Dir, Phase};
+use rules_install::{Install, InstallFault};
+use server_events::Event;
 use std::alloc::Global;
 use std::sync::ledger::Ledger;
 

@@ -9,19 +9,20 @@ ghost use Rattle.server_events.specs.Journals.{HasSameRoom};
 ghost use Rattle.rules_install.specs.Installs.{installing};
 ghost use Rattle.rules_install.specs.Steps.{BlamesDevice, BlamesFault, IsOfDevice};
 ghost use Rattle.rules_install.specs.Installing.{Installing};
-ghost use Rattle.rules_install.specs.declared.Phase.TheVariants.{Done};
+ghost use Rattle.dir_calls.specs.declared.phase.Phase.TheVariants.{Done};
 ghost use Rattle.rules_install.specs.declared.fault.InstallFault.TheVariants.{Over};
-ghost use Rattle.server_events.specs.ServerState.{count_from, is_allowed, is_unstarted, may_happen, stage_of};
+ghost use Rattle.server_events.specs.ServerState.{count_from, is_allowed, may_happen, stage_of};
 ghost use Rattle.server_events.specs.Worlds.{missing_by, peer_of};
-ghost use Rattle.server_events.specs.declared.event.Event.TheVariants.{Admitted, Opened, Decided, Started, StartFailed, Ended, Retired, Dropped};
+ghost use Rattle.server_events.specs.declared.event.Event.TheVariants.{Admitted, Opened, Decided, Started, Retired};
 ghost use Rattle.server_events.specs.declared.event.Stage.TheVariants as stage;
 ghost use Rattle.server_yard.specs.Installed.{KeepsHistory, IsWholeFile};
+ghost use Rattle.server_yard.specs.Leavings.{leaving_event, may_leave};
 ghost use Rattle.server_yard.specs.Passes.{IsDecidedBy, finding_file, pass_bytes, pass_file, pass_missing, pass_serial};
 ghost use Rattle.server_yard.specs.Readers.{ReadersFind};
 ghost use Rattle.server_yard.specs.Rolls.{CountsStored, IsQuiet, Lived, Notes, NotesSome};
 ghost use Rattle.server_yard.specs.Rooms.{KeepsRoom};
 ghost use Rattle.server_yard.specs.Registers.{books_of, roll_of};
-ghost use Rattle.server_yard.specs.Seating.{GivesSeat, IsAddressFull, IsSpent, KeepsSeats, KeepsSerials, goes_on, leaver};
+ghost use Rattle.server_yard.specs.Seating.{GivesSeat, IsAddressFull, IsSpent, KeepsSeats, KeepsSerials, goes_on};
 ghost use Rattle.server_yard.specs.Standing.{BeginsWell, LeadsDecided, LeadsOn, LeadsOpened, LeadsSome, standing_of};
 ghost use Rattle.server_yard.specs.Stepping.{GoesAsStep, HandsBack, IsRefusedAs, begin_event, event_of_step, kept_after_begin, kept_after_step, is_kept_after, is_of_disk, kept_then, last_begun_after, lists_after_begin};
 ghost use Rattle.server_yard.specs.Kept.{FindsItsFile, FindsItsFile-prop, HasNoEvents, IsKeptInstallation, installing_of, is_kept, phase_of, rules_of, state_of};
@@ -29,14 +30,15 @@ ghost use Rattle.server_yard.specs.declared.register.AdmitFault.TheVariants.{Ful
 
 use crate::assumptions::Assumptions;
 use crate::finding::Finding;
+use crate::leaving::Leaving;
 use crate::pass::Pass;
 use crate::register::{AdmitFault, Register};
 use crate::stepping::{begin_noted, step_noted};
 use cdb_files::CdbFile;
-use child_jobs::{DropCause, Job, Place, Running, StartFault, Status, TableFault};
-use dir_calls::{Dir, DirFault, Name};
+use child_jobs::{Job, Place, Running, TableFault};
+use dir_calls::{Dir, DirFault, Name, Phase};
 use rule_lookup::{Decision, Peer, WhenMissing};
-use rules_install::{Install, InstallFault, Phase};
+use rules_install::{Install, InstallFault};
 use server_events::{Event, Journal, Stage};
 use std::alloc::Global;
 use std::marker::PhantomData;
@@ -280,22 +282,6 @@ impl<L: Assumptions, D: Dir + Drop> Yard<L, D> {
         self.register.advance(event);
     }
 
-    // Notes an event by which a connection goes. Its place is free.
-    fn leave(&mut self, place: Place<L>, serial: u64, event: Event)
-        requires kind { leaver event ≡ Some serial }
-        requires seat { yard_seat self.old place ≡ Some serial }
-        requires may { may_happen (yard_server self.old) event ≡ true }
-        ensures noted { Notes event (yard_roll self.old) (yard_roll self.new) }
-        ensures step { IsTrue D.honest → LeadsOn event (yard_state self.old) (yard_state self.new) }
-        ensures beside { (d : Directory) → LeadsOn event (yard_over d self.old) (yard_over d self.new) }
-        ensures room { KeepsRoom (yard_roll self.old) (yard_roll self.new) }
-        ensures same { IsSameBeside self.old self.new }
-        ensures seats { KeepsSeats (yard_seat self.old) (yard_seat self.new) }
-        ensures gone { stage_of serial (yard_server self.new).connections ≡ None }
-    {
-        self.register.leave(place, serial, event);
-    }
-
     // What stands under the rules name, and what is decided if nothing does.
     fn find(&mut self, alloc: Global) -> Result<(Option<CdbFile<D::File>>, WhenMissing), DirFault>
         ensures missing { IfOk result (λ r. r.1 ≡ missing_by (yard_rules self.old)) }
@@ -438,14 +424,14 @@ impl<L: Assumptions, D: Dir + Drop> Yard<L, D> {
         self.advance(Event::Started { serial });
     }
 
-    /// Notes that the child of an allowed connection could not be started. The connection is gone. It takes no memory.
-    pub fn start_failed(&mut self, place: Place<L>, fault: StartFault)
-        requires allowed { is_allowed (stage_of_place self.old place) ≡ true }
-        ensures noted { Notes (StartFailed (number_of self.old place) fault) (yard_roll self.old) (yard_roll self.new) }
-        ensures step { IsTrue D.honest → LeadsOn (StartFailed (number_of self.old place) fault)
+    /// Notes that a connection has gone so. Its place is free. It takes no memory.
+    pub fn left(&mut self, place: Place<L>, leaving: Leaving)
+        requires may { may_leave leaving (stage_of_place self.old place) ≡ true }
+        ensures noted { Notes (leaving_event leaving (number_of self.old place)) (yard_roll self.old) (yard_roll self.new) }
+        ensures step { IsTrue D.honest → LeadsOn (leaving_event leaving (number_of self.old place))
             (yard_state self.old) (yard_state self.new) }
         // and so over whatever directory others left
-        ensures beside { (d : Directory) → LeadsOn (StartFailed (number_of self.old place) fault)
+        ensures beside { (d : Directory) → LeadsOn (leaving_event leaving (number_of self.old place))
             (yard_over d self.old) (yard_over d self.new) }
         ensures room { KeepsRoom (yard_roll self.old) (yard_roll self.new) }
         ensures same { IsSameBeside self.old self.new }
@@ -453,25 +439,7 @@ impl<L: Assumptions, D: Dir + Drop> Yard<L, D> {
         ensures gone { stage_of (number_of self.old place) (yard_server self.new).connections ≡ None }
     {
         let serial = self.register.number(place.index());
-        self.leave(place, serial, Event::StartFailed { serial, fault });
-    }
-
-    /// Notes that the child of a connection has ended. The connection is gone. It takes no memory.
-    pub fn ended(&mut self, place: Place<L>, status: Status)
-        requires started { stage_of_place self.old place ≡ Some stage.Started }
-        ensures noted { Notes (Ended (number_of self.old place) status) (yard_roll self.old) (yard_roll self.new) }
-        ensures step { IsTrue D.honest → LeadsOn (Ended (number_of self.old place) status)
-            (yard_state self.old) (yard_state self.new) }
-        // and so over whatever directory others left
-        ensures beside { (d : Directory) → LeadsOn (Ended (number_of self.old place) status)
-            (yard_over d self.old) (yard_over d self.new) }
-        ensures room { KeepsRoom (yard_roll self.old) (yard_roll self.new) }
-        ensures same { IsSameBeside self.old self.new }
-        ensures seats { KeepsSeats (yard_seat self.old) (yard_seat self.new) }
-        ensures gone { stage_of (number_of self.old place) (yard_server self.new).connections ≡ None }
-    {
-        let serial = self.register.number(place.index());
-        self.leave(place, serial, Event::Ended { serial, status });
+        self.register.leave(place, serial, leaving.event(serial));
     }
 
     /// Notes that the child of a connection could not be waited for. It is abandoned, and its place stays counted for
@@ -490,24 +458,6 @@ impl<L: Assumptions, D: Dir + Drop> Yard<L, D> {
         ensures seats { KeepsSeats (yard_seat self.old) (yard_seat self.new) }
     {
         self.register.retire(running);
-    }
-
-    /// Notes that a connection was given up before a child was started. The connection is gone. It takes no memory.
-    pub fn dropped(&mut self, place: Place<L>, cause: DropCause)
-        requires unstarted { is_unstarted (stage_of_place self.old place) ≡ true }
-        ensures noted { Notes (Dropped (number_of self.old place) cause) (yard_roll self.old) (yard_roll self.new) }
-        ensures step { IsTrue D.honest → LeadsOn (Dropped (number_of self.old place) cause)
-            (yard_state self.old) (yard_state self.new) }
-        // and so over whatever directory others left
-        ensures beside { (d : Directory) → LeadsOn (Dropped (number_of self.old place) cause)
-            (yard_over d self.old) (yard_over d self.new) }
-        ensures room { KeepsRoom (yard_roll self.old) (yard_roll self.new) }
-        ensures same { IsSameBeside self.old self.new }
-        ensures seats { KeepsSeats (yard_seat self.old) (yard_seat self.new) }
-        ensures gone { stage_of (number_of self.old place) (yard_server self.new).connections ≡ None }
-    {
-        let serial = self.register.number(place.index());
-        self.leave(place, serial, Event::Dropped { serial, cause });
     }
 
     // Whether an installation is for the rules name.

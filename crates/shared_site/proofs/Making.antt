@@ -5,16 +5,20 @@ use Rattle.dir_calls.specs.Directory.{Directory}
 use Rattle.dir_calls.specs.declared.dir.Dir as dir
 use Rattle.dir_calls.specs.declared.rules_file.RulesFile as file
 use Rattle.server_events.specs.Journals.{one_more}
-use Rattle.rule_lines.specs.declared.instr.Verdict.TheVariants as verdict
+use Rattle.rule_lookup.specs.declared.instr.Verdict.TheVariants as verdict
 use Rattle.server_events.specs.ServerState.{is_allowed, is_started}
 use Rattle.server_events.specs.declared.event.Event.{Event}
 use Rattle.server_events.specs.declared.event.Stage.{Stage}
 use Rattle.server_events.specs.declared.event.Stage.TheVariants as stage
+use Rattle.server_events.specs.Processes.{is_connections}
+use Rattle.server_yard.specs.Leavings.{leaving_event}
 use Rattle.server_yard.specs.Rolls.{Notes, Roll, number_at, stage_at}
 use Rattle.server_yard.specs.Seating.{KeepsSeats}
 use Rattle.server_yard.specs.Standing.{LeadsOn, YardState}
 use Rattle.server_yard.specs.Yards.{IsSameBeside, stage_of_place, yard_over, yard_roll, yard_seat, yard_state}
 use Rattle.server_yard.specs.declared.assumptions.Assumptions as assumptions
+use Rattle.server_yard.specs.declared.leaving.Leaving.{Leaving}
+use Rattle.server_yard.specs.declared.leaving.Leaving.TheVariants.{StartFailed, Ended, Dropped}
 use Rattle.server_yard.specs.declared.yard.Yard.{Yard}
 use Rattle.shared_site.specs.Receipts.{CountsAtMostOne, receipt_after, receipt_at, receipt_of}
 use Rattle.shared_site.specs.Turns.{IsAt, IsLastOf, IsPassedOver, Makes, MakesBy, NotesAs, NotesBy, spoken_by}
@@ -115,6 +119,12 @@ at_after who passes serial place old mid spoken at =
       has_serial = ap number_at (spoken.seats place) ∙ at.has_serial;
       has_stage = ap passes stays ∙ at.has_stage;
     }
+
+-- the events by which connections go are events of connections
+pub of_connections : (l : Leaving) (n : ℕ) → is_connections (leaving_event l n) ≡ true
+of_connections (StartFailed fault) n = refl
+of_connections (Ended status) n = refl
+of_connections (Dropped cause) n = refl
 
 -- the one stage in which a child may be started, and the one in which it runs
 pub allowed_is : (s : Option Stage) → is_allowed s ≡ true → s ≡ Some (stage.Decided verdict.Allow)

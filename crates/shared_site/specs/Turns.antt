@@ -48,7 +48,7 @@ pub record IsLastOf (who : ℕ) (event : Event) (roll : Roll) : Type 0 where
 abbrev pub LeadsFound : ℕ → Option (List ℕ) → (old new : YardState) → Type 0
 LeadsFound serial bytes old new = bytes ≡ standing_of old → LeadsOpened serial bytes old new
 
--- a yard with this ledger, this directory, this journal and these files, and what their traits tell of them
+-- a yard with this ledger, this directory and these files, and what their traits tell of them
 module _ {L D F : Type 0} {p : assumptions.Ghosts L} {d : dir.Ghosts D F} {f : file.Ghosts F} where
   -- no place is free, but one may become free
   pub record IsFullForNow (y : Yard L D F p d f) : Type 0 where

@@ -8,10 +8,11 @@
 ghost use Rattle.std.specs.Prelude.{⊤, ◌≡◌, ◌↔◌, false, true, Bool, Err, None, Option, Some, IsTrue, IsOk, IfOk, IfSome, OnErr, OnOk, is_ok, is_some, length, option_map};
 ghost use Rattle.child_jobs.specs.Runs.{place_of};
 ghost use Rattle.dir_calls.specs.Directory.{Directory};
-ghost use Rattle.server_events.specs.ServerState.{is_admitted, is_allowed, is_started, is_unstarted, stage_of};
+ghost use Rattle.server_events.specs.ServerState.{is_admitted, is_allowed, is_started, stage_of};
 ghost use Rattle.server_events.specs.Worlds.{missing_by};
 ghost use Rattle.server_events.specs.declared.event.Event.TheVariants as event;
 ghost use Rattle.server_events.specs.declared.event.Stage.{Stage as StageOf};
+ghost use Rattle.server_yard.specs.Leavings.{leaving_event, may_leave};
 ghost use Rattle.server_yard.specs.Passes.{IsDecidedBy, finding_file, pass_bytes, pass_missing, pass_serial};
 ghost use Rattle.server_yard.specs.Rolls.{IsQuiet};
 ghost use Rattle.server_yard.specs.Seating.{GivesSeat, IsAddressFull, IsSpent, KeepsSerials};
@@ -24,11 +25,10 @@ ghost use Rattle.shared_site.specs.Turns.{Answers, IsAt, IsPassedOver, LeadsFoun
 use crate::ground::{Ground, YardOf};
 use crate::receipt::{EventSnapshot, Made, OutOfTurn, Refusal};
 use crate::turn::{Turn, made};
-use child_jobs::{DropCause, Job, Place, Running, StartFault, Status};
-use rule_lines::Verdict;
-use rule_lookup::{Decision, Peer};
+use child_jobs::{Job, Place, Running};
+use rule_lookup::{Decision, Peer, Verdict};
 use server_events::{Event, Stage};
-use server_yard::{Finding, Pass};
+use server_yard::{Finding, Leaving, Pass};
 use std::snapshot::Snapshot;
 
 /// Lets a connection in, as `Yard::admit` does.
@@ -226,99 +226,51 @@ impl<G: Ground, C: Job> Turn<G> for Started<'_, G, C> {
     }
 }
 
-/// Notes that the child of the connection with this serial could not be started, as `Yard::start_failed` does. The
-/// connection has to have this place, and to be allowed.
+/// Notes that the connection with this serial has gone so, as `Yard::left` does. The connection has to have this place,
+/// and to be in a stage from which it may go so.
 ///
 /// # Errors
 /// The event is out of turn. The place stays counted for good, and nothing changed but the speaker.
-pub struct StartFailed<G: Ground> {
+pub struct Left<G: Ground> {
     /// The connection's serial.
     pub serial: u64,
     /// Its place.
     pub place: Place<G::Places>,
-    /// Why.
-    pub fault: StartFault,
+    /// How it goes.
+    pub leaving: Leaving,
 }
 
-impl<G: Ground> Turn<G> for StartFailed<G> {
+impl<G: Ground> Turn<G> for Left<G> {
     type Answer = Result<Made, OutOfTurn>;
 
     ghost may = { λ _. ⊤ };
 
-    ghost answers = { λ turn. MakesOrNot (event.StartFailed turn.serial turn.fault) };
+    ghost answers = { λ turn. MakesOrNot (leaving_event turn.leaving turn.serial) };
 
-    ghost tells = { λ turn. told_if_made (event.StartFailed turn.serial turn.fault) };
+    ghost tells = { λ turn. told_if_made (leaving_event turn.leaving turn.serial) };
 
     fn run(self, yard: &mut YardOf<G>, caller: u64) -> Result<Made, OutOfTurn>
-        ensures answers { Answers (MakesOrNot (event.StartFailed self.serial self.fault))
+        ensures answers { Answers (MakesOrNot (leaving_event self.leaving self.serial))
             caller result yard.old yard.new }
         ensures counts { CountsAtMostOne (yard_books yard.old).count (yard_books yard.new).count }
         ensures notes { G.is_servers ≡ true → NotesAs caller
-            (told_if_made (event.StartFailed self.serial self.fault) result)
+            (told_if_made (leaving_event self.leaving self.serial) result)
             (yard_roll yard.old) (yard_roll yard.new) }
-        ensures in_turn { IsOk result ↔ IsAt is_allowed self.serial yard.old self.place }
-        ensures makes { Makes caller (event.StartFailed self.serial self.fault) (is_ok result) yard.old yard.new }
+        ensures in_turn { IsOk result ↔ IsAt (may_leave self.leaving) self.serial yard.old self.place }
+        ensures makes { Makes caller (leaving_event self.leaving self.serial) (is_ok result) yard.old yard.new }
         ensures gone { OnOk result (stage_of self.serial (yard_server yard.new).connections ≡ None) }
     {
-        let StartFailed {
+        let Left {
             serial,
             place,
-            fault,
+            leaving,
         } = self;
-        let event = EventSnapshot::Other(Snapshot::of(&Event::StartFailed { serial, fault }));
-        if speak_at::<G>(yard, caller, &place, serial) != Some(Stage::Decided(Verdict::Allow)) {
+        let event = EventSnapshot::Other(Snapshot::of(&leaving.event(serial)));
+        if !leaving.may_be(speak_at::<G>(yard, caller, &place, serial)) {
             place.strand();
             return Err(OutOfTurn { asked: event });
         }
-        yard.start_failed(place, fault);
-        Ok(made::<G>(yard, caller, event))
-    }
-}
-
-/// Notes that the child of the connection with this serial has ended, as `Yard::ended` does. The connection has to have
-/// this place, and its child has to be started.
-///
-/// # Errors
-/// The event is out of turn. The place stays counted for good, and nothing changed but the speaker.
-pub struct Ended<G: Ground> {
-    /// The connection's serial.
-    pub serial: u64,
-    /// Its place.
-    pub place: Place<G::Places>,
-    /// How the child ended.
-    pub status: Status,
-}
-
-impl<G: Ground> Turn<G> for Ended<G> {
-    type Answer = Result<Made, OutOfTurn>;
-
-    ghost may = { λ _. ⊤ };
-
-    ghost answers = { λ turn. MakesOrNot (event.Ended turn.serial turn.status) };
-
-    ghost tells = { λ turn. told_if_made (event.Ended turn.serial turn.status) };
-
-    fn run(self, yard: &mut YardOf<G>, caller: u64) -> Result<Made, OutOfTurn>
-        ensures answers { Answers (MakesOrNot (event.Ended self.serial self.status)) caller result yard.old yard.new }
-        ensures counts { CountsAtMostOne (yard_books yard.old).count (yard_books yard.new).count }
-        ensures notes { G.is_servers ≡ true → NotesAs caller
-            (told_if_made (event.Ended self.serial self.status) result)
-            (yard_roll yard.old) (yard_roll yard.new) }
-        ensures in_turn { IsOk result ↔ IsAt is_started self.serial yard.old self.place }
-        ensures makes { Makes caller (event.Ended self.serial self.status) (is_ok result) yard.old yard.new }
-        ensures gone { OnOk result (stage_of self.serial (yard_server yard.new).connections ≡ None) }
-    {
-        let Ended {
-            serial,
-            place,
-            status,
-        } = self;
-        let event = EventSnapshot::Other(Snapshot::of(&Event::Ended { serial, status }));
-        if speak_at::<G>(yard, caller, &place, serial) != Some(Stage::Started) {
-            place.strand();
-            return Err(OutOfTurn { asked: event });
-        }
-        yard.ended(place, status);
+        yard.left(place, leaving);
         Ok(made::<G>(yard, caller, event))
     }
 }
@@ -365,54 +317,6 @@ impl<G: Ground, C: Job> Turn<G> for Retired<G, C> {
     }
 }
 
-/// Notes that the connection with this serial is given up, as `Yard::dropped` does. The connection has to have this
-/// place, and no child of it may be started.
-///
-/// # Errors
-/// The event is out of turn. The place stays counted for good, and nothing changed but the speaker.
-pub struct Dropped<G: Ground> {
-    /// The connection's serial.
-    pub serial: u64,
-    /// Its place.
-    pub place: Place<G::Places>,
-    /// Why.
-    pub cause: DropCause,
-}
-
-impl<G: Ground> Turn<G> for Dropped<G> {
-    type Answer = Result<Made, OutOfTurn>;
-
-    ghost may = { λ _. ⊤ };
-
-    ghost answers = { λ turn. MakesOrNot (event.Dropped turn.serial turn.cause) };
-
-    ghost tells = { λ turn. told_if_made (event.Dropped turn.serial turn.cause) };
-
-    fn run(self, yard: &mut YardOf<G>, caller: u64) -> Result<Made, OutOfTurn>
-        ensures answers { Answers (MakesOrNot (event.Dropped self.serial self.cause)) caller result yard.old yard.new }
-        ensures counts { CountsAtMostOne (yard_books yard.old).count (yard_books yard.new).count }
-        ensures notes { G.is_servers ≡ true → NotesAs caller
-            (told_if_made (event.Dropped self.serial self.cause) result)
-            (yard_roll yard.old) (yard_roll yard.new) }
-        ensures in_turn { IsOk result ↔ IsAt is_unstarted self.serial yard.old self.place }
-        ensures makes { Makes caller (event.Dropped self.serial self.cause) (is_ok result) yard.old yard.new }
-        ensures gone { OnOk result (stage_of self.serial (yard_server yard.new).connections ≡ None) }
-    {
-        let Dropped {
-            serial,
-            place,
-            cause,
-        } = self;
-        let event = EventSnapshot::Other(Snapshot::of(&Event::Dropped { serial, cause }));
-        if !is_unstarted(speak_at::<G>(yard, caller, &place, serial)) {
-            place.strand();
-            return Err(OutOfTurn { asked: event });
-        }
-        yard.dropped(place, cause);
-        Ok(made::<G>(yard, caller, event))
-    }
-}
-
 // Whether the connection of a pass may be decided now.
 fn may_be_decided<G: Ground>(yard: &YardOf<G>, pass: &Pass<G::Places, G::File>, peer: &Peer) -> bool
     ensures { IsTrue result ↔ MayBeDecided yard.now pass.now peer.now }
@@ -440,14 +344,4 @@ fn speak_at<G: Ground>(
         Some((own, stage)) if own == serial => Some(stage),
         _ => None,
     }
-}
-
-// Whether no child was started in this stage.
-fn is_unstarted(stage: Option<Stage>) -> bool
-    ensures { result ≡ is_unstarted stage }
-{
-    matches!(
-        stage,
-        Some(Stage::Admitted | Stage::Opened | Stage::Decided(_))
-    )
 }

@@ -15,7 +15,7 @@ use Rattle.server_events.specs.declared.event.Event.TheVariants.{Dropped, Ended,
 use Rattle.one_connection.specs.Openings.{Opening, WasFound}
 use Rattle.one_connection.specs.Servings.{Drops, FailsFor, IfDropped, IfStartFailed, IsChild, IsDecidedAs, IsRefused, OnDenied, last_event}
 use Rattle.one_connection.specs.declared.serving.Served.{Served}
-use Rattle.rule_lines.specs.declared.instr.Verdict.TheVariants.{Deny}
+use Rattle.rule_lookup.specs.declared.instr.Verdict.TheVariants.{Deny}
 use Rattle.child_jobs.specs.Ends.{LocalEnd}
 use Rattle.tcp_connections.specs.Rounds.{AllFail, EndsAs, FailsToWait, Kills, OneEnds, rounds}
 use Rattle.tcp_service.specs.Lives.{EndsWithReason, IsDecidedChild, IsEndOfChild, IsEndedByForce, IsOwnChild, OfSameChild, Refuses}

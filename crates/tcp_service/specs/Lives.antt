@@ -9,7 +9,7 @@ use Rattle.child_jobs.specs.declared.outcome.StartFault.{StartFault}
 use Rattle.child_jobs.specs.declared.outcome.Status.{Status}
 use Rattle.one_connection.specs.Openings.{Opening, WasFound}
 use Rattle.one_connection.specs.Servings.{Drops, FailsFor, IsChild, IsDecidedAs, IsRefused}
-use Rattle.rule_lines.specs.declared.instr.Verdict.TheVariants.{Deny}
+use Rattle.rule_lookup.specs.declared.instr.Verdict.TheVariants.{Deny}
 use Rattle.server_events.specs.declared.event.Event.{Event}
 use Rattle.server_events.specs.declared.event.Event.TheVariants.{Admitted, Dropped, Ended, Retired, StartFailed}
 use Rattle.server_yard.specs.Seating.{leaver}

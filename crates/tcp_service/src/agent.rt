@@ -12,8 +12,8 @@ use child_jobs::{DropCause, Job, Local, Place, Running, StartFault, Status};
 use one_connection::{Agent, cause_of_open, decide_by_pass};
 use rule_lookup::{DecideFault, Decision, Peer};
 use server_log::{Cause, Told};
-use server_yard::{Finding, Pass};
-use shared_site::turns::{Decided, Dropped, Ended, Opened, Retired, StartFailed, Started};
+use server_yard::{Finding, Leaving, Pass};
+use shared_site::turns::{Decided, Left, Opened, Retired, Started};
 use shared_site::{Ground, Made, OutOfTurn, Turn};
 use std::alloc::Global;
 use std::snapshot::Snapshot;
@@ -166,10 +166,10 @@ impl<G: AgentGround> LoggedAgent<'_, G> {
                     Status::Signal => self.notes.signal(self.context.rt),
                     Status::Code(_) => None,
                 };
-                let turn = Ended::<G> {
+                let turn = Left::<G> {
                     serial,
                     place,
-                    status,
+                    leaving: Leaving::Ended(status),
                 };
                 let told = Told::Ended {
                     serial,
@@ -327,10 +327,10 @@ impl<G: AgentGround> Agent<G::Places> for LoggedAgent<'_, G> {
             fault,
             cause,
         };
-        let turn = StartFailed::<G> {
+        let turn = Left::<G> {
             serial,
             place,
-            fault,
+            leaving: Leaving::StartFailed(fault),
         };
         self.last = Some(self.tell(turn, told));
     }
@@ -347,10 +347,10 @@ impl<G: AgentGround> Agent<G::Places> for LoggedAgent<'_, G> {
             file,
             why,
         };
-        let turn = Dropped::<G> {
+        let turn = Left::<G> {
             serial,
             place,
-            cause,
+            leaving: Leaving::Dropped(cause),
         };
         self.last = Some(self.tell(turn, told));
         drop(reason);

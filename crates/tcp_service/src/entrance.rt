@@ -15,8 +15,8 @@ use crate::server::{AgentContext, Server};
 use crate::telling::{AdmittedBy, TellingAdmission};
 use child_jobs::{DropCause, Local};
 use rule_lookup::Peer;
-use server_yard::{AdmitFault, Assumptions};
-use shared_site::turns::Dropped;
+use server_yard::{AdmitFault, Assumptions, Leaving};
+use shared_site::turns::Left;
 use shared_site::{AllRetired, CallerOf, Made, Refusal};
 use std::alloc::{AllocError, Global};
 use std::snapshot::Snapshot;
@@ -204,11 +204,10 @@ fn admit<G: AgentGround>(
     match site.turn(rt, admitter, TellingAdmission::<G> { peer, rt, log }) {
         Ok((serial, place, made)) => {
             if made.at() == u64::MAX {
-                let cause = DropCause::Memory;
-                let turn = Dropped::<G> {
+                let turn = Left::<G> {
                     serial,
                     place,
-                    cause,
+                    leaving: Leaving::Dropped(DropCause::Memory),
                 };
                 let _ = site.turn(rt, admitter, turn);
                 *spent = Some(NoNumbers::of_event(&made));

@@ -1,7 +1,6 @@
 //! What the log tells of why a connection was denied or given up.
 use child_jobs::DropCause;
-use rule_lines::Verdict;
-use rule_lookup::{Decision, Found};
+use rule_lookup::{Decision, Found, Verdict};
 use server_log::Cause;
 
 /// Why a rules file that is not there can't be followed, in the words of the system.

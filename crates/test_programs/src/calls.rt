@@ -8,14 +8,15 @@ ghost use Rattle.server_yard.specs.Passes.{IsDecidedBy};
 use crate::children::{Idle, end_child, start_child};
 use crate::sites::InMemory;
 use child_jobs::{DropCause, Place};
-use dir_calls::{MemFile, Name, RulesFile};
-use rule_lines::{Limits, Verdict};
-use rule_lookup::{DecideFault, Decision, Peer, decide};
+use dir_calls::{Name, Phase, RulesFile};
+use memory_dirs::MemFile;
+use rule_lines::Limits;
+use rule_lookup::{DecideFault, Decision, Peer, Verdict, decide};
 use rules_install::whole::prepare;
-use rules_install::{FileNames, Install, Phase};
+use rules_install::{FileNames, Install};
 use server_events::Event;
-use server_yard::{AdmitFault, Assumptions, Pass};
-use shared_site::turns::{Admit, Decided, Dropped, Ended, Started};
+use server_yard::{AdmitFault, Assumptions, Leaving, Pass};
+use shared_site::turns::{Admit, Decided, Left, Started};
 use shared_site::{Caller, Callers, Made, OutOfTurn, Receipt, Site, Turn};
 use std::alloc::{AllocError, AllocFailed, Global};
 use std::sync::Wait;
@@ -199,10 +200,10 @@ pub(crate) fn run_child<L: Assumptions, N: Callers, R: Wait>(
         return Err(error);
     }
     let (place, status) = end_child(running)?;
-    let ended = Ended::<InMemory<L, N>> {
+    let ended = Left::<InMemory<L, N>> {
         serial,
         place,
-        status,
+        leaving: Leaving::Ended(status),
     };
     let event = Event::Ended { serial, status };
     make(rt, site, caller, ended, event, receipts)
@@ -217,10 +218,10 @@ pub(crate) fn drop_one<L: Assumptions, N: Callers, R: Wait>(
     cause: DropCause,
     receipts: &mut Vec<Receipt>,
 ) -> OrWrong<()> {
-    let turn = Dropped::<InMemory<L, N>> {
+    let turn = Left::<InMemory<L, N>> {
         serial,
         place,
-        cause,
+        leaving: Leaving::Dropped(cause),
     };
     let event = Event::Dropped { serial, cause };
     make(rt, site, caller, turn, event, receipts)

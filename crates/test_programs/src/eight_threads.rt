@@ -7,9 +7,8 @@ use crate::calls::{
 };
 use crate::sites::{InMemory, close, new_site};
 use child_jobs::DropCause;
-use dir_calls::MemDir;
-use rule_lines::Verdict;
-use rule_lookup::WhenMissing;
+use memory_dirs::MemDir;
+use rule_lookup::{Verdict, WhenMissing};
 use server_events::{Event, Report, replay};
 use server_yard::{Assumptions, Yard};
 use shared_site::{Caller, Callers, Receipt, Site};

@@ -1,8 +1,10 @@
 //! An installation in a directory in memory, one of whose calls fails.
+use crate::fuse_dir::FuseDir;
 use cdb_files::CdbFile;
-use dir_calls::{Choice, Dir, FuseDir, MemDir, MemFile, Name};
-use rule_lines::{Limits, Verdict};
-use rule_lookup::{Peer, RuleSource, WhenMissing, decide};
+use dir_calls::{Choice, Dir, Name};
+use memory_dirs::{MemDir, MemFile};
+use rule_lines::Limits;
+use rule_lookup::{Peer, RuleSource, Verdict, WhenMissing, decide};
 use rules_install::whole::install;
 use rules_install::{FileNames, InstallFault};
 use std::alloc::Global;

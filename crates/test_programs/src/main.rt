@@ -12,7 +12,9 @@ mod calls;
 mod children;
 mod eight_threads;
 mod folder;
+mod fuse_dir;
 mod installs;
+mod mem_disk;
 mod pairs;
 mod sites;
 

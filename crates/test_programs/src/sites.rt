@@ -1,13 +1,14 @@
 //! Sites over a directory in memory, from the start to the audit.
 ghost use Rattle.std.specs.Prelude.{◌≡◌, false, ◌<◌, IfOk, IsTrue};
-ghost use Rattle.dir_calls.specs.MemDir.{mem_state};
+ghost use Rattle.memory_dirs.specs.MemDir.{mem_state};
 ghost use Rattle.server_yard.specs.Kept.{rules_of};
 ghost use Rattle.server_yard.specs.Standing.{Begins};
 ghost use Rattle.server_yard.specs.Yards.{yard_books};
 ghost use Rattle.whole_yard.specs.Closings.{IsWhole};
 
 use crate::calls::{OrWrong, Wrong};
-use dir_calls::{MemDir, MemFile, Name};
+use dir_calls::Name;
+use memory_dirs::{MemDir, MemFile};
 use rule_lookup::WhenMissing;
 use server_events::Journal;
 use server_yard::{Assumptions, Yard};

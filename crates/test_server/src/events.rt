@@ -1,8 +1,8 @@
 //! Events in the words of a script. An end by a signal is written as one with code 0.
 use crate::answer::Answer;
 use child_jobs::Status;
-use rule_lines::Verdict;
-use rules_install::Phase;
+use dir_calls::Phase;
+use rule_lookup::Verdict;
 use server_events::Event;
 
 /// Adds an event.

@@ -2,8 +2,7 @@
 use crate::answer::Answer;
 use child_jobs::{DropCause, Local, StartFault, Status};
 use fault_hints::Voice;
-use rule_lines::Verdict;
-use rule_lookup::{Peer, PeerFault};
+use rule_lookup::{Peer, PeerFault, Verdict};
 use server_log::{Cause, Log, LogFault, Told};
 use server_words::Level;
 use std::alloc::Global;

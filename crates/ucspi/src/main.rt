@@ -3,13 +3,25 @@
 //!
 //! `main` lends the system, and the tools that start threads, to `ucspi_tools::run_system`. What it lends is a premise,
 //! which its lines state: `docs/internals/PROOFS.md` lists them.
+//!
+//! `tcpserver` stands here too, in `tool`: the service of `tcp_service` over the system's sockets, files and programs, as
+//! its words ask for it. `System` has what it uses of the system, and `OnSystem` is the host of its service. `parts_of`,
+//! `yard_of`, `log_of` and `open_socket` are proved to make what the words ask for (`specs/Asked.antt`), and the calls
+//! behind them take nothing else. That `serve_on` lends it to `serve`, and what is printed and exited with, is read here
+//! and tested with real clients. `run_tcpserver` refuses words with a fault, and ends well only by a `Finished`.
 #![tactic(auto)]
+
+mod ends;
+mod no_folder;
+mod rules;
+mod system;
+mod tool;
 
 use byte_streams::Patient;
 use fault_hints::Voice;
-use server_tool::run_tcpserver;
 use std::process::ExitCode;
 use stream_tools::{run_fixcrio, run_recordio};
+use tool::run_tcpserver;
 use ucspi_tools::run_system;
 
 fn main(rt: HostRuntime) -> ExitCode {

@@ -2,10 +2,10 @@
 //! exits then.
 //!
 //! The program uses `run_system`, and that `run_program`: it runs the one tool that name and words choose, once, and
-//! exits by its answer (`runs`). What `addcr`, `delcr` and a tool's help do, and what is told of a fault behind its line, is said there.
-//! What each other tool does is a relation of its own (`Calls`), of which nothing is known. `run_system` runs them over
-//! the system: that each call is the tool of its name is a premise. `write_fault` writes causes and hints behind
-//! the line of a fault. The lines of faults, the version and the list of tools are tested only.
+//! exits by its answer (`runs`). What `addcr`, `delcr` and a tool's help do, and what is told of a fault behind its
+//! line, is said there. What each other tool does is a relation of its own (`Calls`), of which nothing is known.
+//! `run_system` runs them over the system: that each call is the tool of its name is a premise. `write_fault` writes
+//! causes and hints behind the line of a fault. The lines of faults, the version and the list of tools are tested only.
 #![tactic(auto)]
 
 mod about;

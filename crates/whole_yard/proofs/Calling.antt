@@ -3,7 +3,7 @@ use Rattle.std.proofs.Common.{◌≡◌, ◌<◌, ◌-◌, ◌^◌, ◌==◌, �
 use Rattle.std.specs.Prelude.{IfSome, None, Option, Result, Some, if◌then◌else◌, is_some, option_map}
 use Rattle.server_events.specs.Journals.{one_more}
 use Rattle.rules_install.specs.Installing.{Installing}
-use Rattle.rules_install.specs.declared.Phase.{Phase}
+use Rattle.dir_calls.specs.declared.phase.Phase.{Phase}
 use Rattle.rules_install.specs.declared.fault.InstallFault.{InstallFault}
 use Rattle.server_events.specs.declared.event.Event.{Event}
 use Rattle.server_yard.specs.Rolls.{NotesSome, Roll}

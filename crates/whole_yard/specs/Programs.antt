@@ -5,7 +5,7 @@ use Rattle.child_jobs.specs.Programs.{ProgramText}
 use Rattle.rule_lookup.specs.Peers.{Client}
 use Rattle.one_connection.specs.Openings.{Opening}
 use Rattle.one_connection.specs.Servings.{IsChild}
-use Rattle.rule_lines.specs.declared.instr.Verdict.TheVariants.{Allow}
+use Rattle.rule_lookup.specs.declared.instr.Verdict.TheVariants.{Allow}
 use Rattle.rule_lookup.specs.declared.decision.Decision.{Decision}
 use Rattle.rule_lookup.specs.declared.decision.WhenMissing.{WhenMissing}
 use Rattle.server_events.specs.ServerState.{Effect, ServerState, after, decides, effect, start}

@@ -23,7 +23,7 @@ LeadsBy it (Opened n there) old new = LeadsOpened n it.bytes old new
 LeadsBy it (Decided n decision) old new = LeadsDecided n it.bytes decision old new
 LeadsBy it event old new = LeadsOn event old new
 
--- a yard with this ledger, this directory, this journal and these files, and what their traits tell of them
+-- a yard with this ledger, this directory and these files, and what their traits tell of them
 module _ {L D F : Type 0} {p : assumptions.Ghosts L} {d : dir.Ghosts D F} {f : file.Ghosts F} where
   -- a place belongs to the connection with this serial and this peer, which is in this stage
   pub record StandsAt (yard : Yard L D F p d f) (place serial : ℕ) (peer : Client) (stage : Stage) : Type 0 where

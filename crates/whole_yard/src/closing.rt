@@ -56,7 +56,7 @@ pub fn audit_whole<L: Assumptions, D: Dir + Drop>(
 
 /// Closes a site whose callers are all back, and audits their receipts. If the audit is Ok, they are the whole history
 /// of its yard: each event with its caller, once. None is missing if there are as many receipts as the callers made
-/// events, and the yard had no events before.
+/// events, and the yard had no events before. The audit of a yard whose journal stores nothing is `OnlyCounted`.
 ///
 /// # Errors
 /// Some caller is lacking. The site and the callers are handed back.

@@ -4,7 +4,7 @@
 ghost use Rattle.std.specs.Prelude.{◌≡◌, ◌≢◌, ◌+◌, ◌↔◌, false, Err, None, Some, IsTrue, IfOk, IfErr, IfSome, Ok, option_map, if◌then◌else◌};
 ghost use Rattle.rules_install.specs.Installs.{installing};
 ghost use Rattle.rules_install.specs.Steps.{BlamesDevice, BlamesFault, IsOfDevice};
-ghost use Rattle.rules_install.specs.declared.Phase.TheVariants.{Done};
+ghost use Rattle.dir_calls.specs.declared.phase.Phase.TheVariants.{Done};
 ghost use Rattle.rules_install.specs.declared.fault.InstallFault.TheVariants.{Over};
 ghost use Rattle.server_yard.specs.Rolls.{NotesSome};
 ghost use Rattle.server_yard.specs.Seating.{KeepsSeats};
@@ -15,7 +15,8 @@ ghost use Rattle.shared_site.specs.Receipts.{CountsAtMostOne, receipt_after, rec
 ghost use Rattle.shared_site.specs.Turns.{IsLastOf, spoken_by};
 ghost use Rattle.whole_yard.specs.YardTurns.{BeginsOrNot, StepsOrNot};
 
-use rules_install::{Install, InstallFault, Phase};
+use dir_calls::Phase;
+use rules_install::{Install, InstallFault};
 use server_events::Event;
 use shared_site::receipt::EventSnapshot;
 use shared_site::turn::made;

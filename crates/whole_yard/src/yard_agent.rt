@@ -9,7 +9,7 @@ use dir_calls::Dir;
 use one_connection::{Agent, cause_of_open, decide_by_pass};
 use rule_lookup::{DecideFault, Decision, Peer};
 use server_events::Stage;
-use server_yard::{Assumptions, Pass, Yard};
+use server_yard::{Assumptions, Leaving, Pass, Yard};
 use std::alloc::Global;
 use std::snapshot::Snapshot;
 
@@ -58,7 +58,7 @@ impl<L: Assumptions, D: Dir + Drop> YardAgent<L, D> {
 
 impl<L: Assumptions, D: Dir + Drop> Agent<L> for YardAgent<L, D> {
     ghost use Rattle.std.specs.Prelude.{◌≡◌, false, IfErr, IfOk, OnErr, OnOk};
-    ghost use Rattle.rule_lines.specs.declared.instr.Verdict.TheVariants.{Allow};
+    ghost use Rattle.rule_lookup.specs.declared.instr.Verdict.TheVariants.{Allow};
     ghost use Rattle.server_events.specs.declared.event.Event.TheVariants.{Decided, Dropped, StartFailed};
     ghost use Rattle.server_events.specs.declared.event.Stage.TheVariants as stage;
     ghost use Rattle.server_yard.specs.Passes.{IsDecidedBy, pass_bytes, pass_missing, pass_serial};
@@ -164,7 +164,7 @@ impl<L: Assumptions, D: Dir + Drop> Agent<L> for YardAgent<L, D> {
         ensures gone { IsGoneFrom self.new.yard serial }
         ensures keeps { kept_opening D.File.bytes self.new.found ≡ kept_opening D.File.bytes self.old.found }
     {
-        self.yard.start_failed(place, fault);
+        self.yard.left(place, Leaving::StartFailed(fault));
     }
 
     fn dropped(&mut self, place: Place<L>, serial: u64, peer: &Peer, cause: DropCause)
@@ -174,6 +174,6 @@ impl<L: Assumptions, D: Dir + Drop> Agent<L> for YardAgent<L, D> {
         ensures keeps { kept_opening D.File.bytes self.new.found ≡ kept_opening D.File.bytes self.old.found }
         ensures failures { D.failed (yard_directory self.new.yard) ≡ D.failed (yard_directory self.old.yard) }
     {
-        self.yard.dropped(place, cause);
+        self.yard.left(place, Leaving::Dropped(cause));
     }
 }

@@ -1,5 +1,5 @@
 use Rattle.std.proofs.Common.{◌∙◌}
-use Rattle.rule_lines.specs.Pairs.{pairs_of}
+use Rattle.rule_lookup.specs.Pairs.{pairs_of}
 use Rattle.cdb_files.specs.Compiled.{stored}
 use Rattle.cdb_files.proofs.AnyKey.{reading_is}
 use Rattle.cdb_files.proofs.StoredRules.{first_value-stored}

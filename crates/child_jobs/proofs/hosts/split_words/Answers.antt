@@ -1,7 +1,7 @@
 use Rattle.std.proofs.Common.{◌≡◌, ap, ◌∙◌, sym, take, drop, length}
 use Rattle.std.specs.Prelude.{not}
 use Rattle.std.specs.List.{prefix_len}
-use Rattle.rule_lines.specs.Lines.{is_blank}
+use Rattle.rule_lookup.specs.Lines.{is_blank}
 use Rattle.child_jobs.specs.HostRows.{after_blanks}
 use Rattle.child_jobs.proofs.WordLemmas.{prefix_stops, prefix_all}
 use Rattle.child_jobs.proofs.hosts.split_words.Goals as goal

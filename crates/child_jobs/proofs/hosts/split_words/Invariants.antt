@@ -1,7 +1,7 @@
 use Rattle.std.proofs.Common.{◌≡◌, ◌≤◌, ◌+◌, ◌-◌, length, drop}
 use Rattle.std.specs.Prelude.{not}
 use Rattle.std.specs.List.{prefix_len}
-use Rattle.rule_lines.specs.Lines.{is_blank}
+use Rattle.rule_lookup.specs.Lines.{is_blank}
 use Rattle.child_jobs.proofs.hosts.split_words.Given as goal
 
 abbrev pub invariant-loop-end : goal.invariant-loop-end

@@ -1,7 +1,7 @@
 -- A place is its index.
 use Rattle.std.specs.Prelude.{ℕ}
 use Rattle.std.proofs.Common.{subst, sym}
-use Rattle.rule_lines.specs.declared.instr.Verdict.TheVariants.{Allow}
+use Rattle.rule_lookup.specs.declared.instr.Verdict.TheVariants.{Allow}
 use Rattle.server_events.specs.declared.event.Stage.TheVariants as stage
 use Rattle.one_connection.proofs.serving.tell_failure.Goals as goal
 

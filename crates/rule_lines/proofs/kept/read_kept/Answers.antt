@@ -3,12 +3,12 @@ use Rattle.std.proofs.Common.{◌≡◌, ◌∙◌, ◌==◌, is_some, sym, ap}
 use Rattle.std.specs.List.{position_or_len}
 use Rattle.std.proofs.lemmas.Bool.{false≢true}
 use Rattle.memchr.specs.Find.{is_byte}
-use Rattle.rule_lines.specs.Codes.{decoded}
+use Rattle.rule_lookup.specs.Codes.{decoded}
 use Rattle.rule_lines.specs.Kept.{the_instr}
-use Rattle.rule_lines.specs.Pairs.{pairs_with}
-use Rattle.rule_lines.specs.Spread.{is_bad_range, spread}
+use Rattle.rule_lookup.specs.Pairs.{pairs_with}
+use Rattle.rule_lookup.specs.Spread.{is_bad_range, spread}
 use Rattle.rule_lines.proofs.FaultLemmas.{address_in-cut, instructions_in-cut}
-use Rattle.rule_lines.proofs.FoundLemmas.{list_any-nowhere, position_or_len-found}
+use Rattle.rule_lookup.proofs.FoundLemmas.{list_any-nowhere, position_or_len-found}
 use Rattle.rule_lines.proofs.kept.read_kept.Goals as goal
 use Rattle.rule_lines.proofs.kept.read_kept.Goals.{After-read_address}
 

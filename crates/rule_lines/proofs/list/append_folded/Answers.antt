@@ -3,7 +3,7 @@ use Rattle.std.proofs.Common.{◌≡◌, ◌∙◌, ◌+◌, eqb, length, arith,
 use Rattle.std.specs.List.{position_or_len}
 use Rattle.memchr.specs.Find.{is_byte}
 use Rattle.rule_lines.proofs.FoldLemmas.{append_folded-is}
-use Rattle.rule_lines.proofs.FoundLemmas.{position_or_len-search}
+use Rattle.rule_lookup.proofs.FoundLemmas.{position_or_len-search}
 use Rattle.rule_lines.proofs.list.append_folded.Goals as goal
 
 pub returns-clause-ok : goal.returns-clause-ok

@@ -7,7 +7,7 @@ use Rattle.std.proofs.lemmas.List.{take_rest}
 use Rattle.std.proofs.lemmas.Slice.Eq.{bytes_eq-Decides}
 use Rattle.memchr.specs.Find.{is_byte}
 use Rattle.rule_lines.proofs.FoldLemmas.{folded-cut, folded-joined}
-use Rattle.rule_lines.proofs.FoundLemmas.{position_or_len-search}
+use Rattle.rule_lookup.proofs.FoundLemmas.{position_or_len-search}
 use Rattle.rule_lines.proofs.list.is_folded.Goals as goal
 use Rattle.rule_lines.proofs.list.is_folded.Goals.{After-unwrap_or-position, then-address-bytes, else-address-bytes}
 

@@ -1,5 +1,5 @@
 use Rattle.std.proofs.Common.{sym, ◌==◌}
-use Rattle.rule_lines.proofs.FoundLemmas.{suffix_len-found, suffix_len-nowhere}
+use Rattle.rule_lookup.proofs.FoundLemmas.{suffix_len-found, suffix_len-nowhere}
 use Rattle.rule_lines.proofs.spread.after_last_dot.Goals as goal
 
 pub returns-in-Some : goal.returns-in-Some

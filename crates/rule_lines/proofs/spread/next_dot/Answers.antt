@@ -1,6 +1,6 @@
 use Rattle.std.proofs.Common.{◌==◌, not, ◌∙◌, arith}
 use Rattle.std.proofs.lemmas.List.Sums.{prefix_len-le-length}
-use Rattle.rule_lines.proofs.FoundLemmas.{position_or_len-search}
+use Rattle.rule_lookup.proofs.FoundLemmas.{position_or_len-search}
 use Rattle.rule_lines.proofs.spread.next_dot.Goals as goal
 
 pub returns-clause-value : goal.returns-clause-value

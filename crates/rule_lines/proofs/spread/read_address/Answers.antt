@@ -1,5 +1,5 @@
 use Rattle.std.proofs.Common.{◌==◌, sym}
-use Rattle.rule_lines.proofs.FoundLemmas.{position_or_len-found}
+use Rattle.rule_lookup.proofs.FoundLemmas.{position_or_len-found}
 use Rattle.rule_lines.proofs.RangeLemmas.{is_range-found, is_range-other, is_range-nowhere, spread-range, spread-other}
 use Rattle.rule_lines.proofs.spread.read_address.Goals as goal
 use Rattle.rule_lines.proofs.spread.read_address.Goals.{in_default-via-in-Some+else-is_none, in_default-via-in_default}

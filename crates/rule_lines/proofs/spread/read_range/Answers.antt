@@ -2,7 +2,7 @@ use Rattle.std.proofs.Common.{sym, ap, ◌∙◌}
 use Rattle.std.proofs.lemmas.Bool.{and_left, and_right, and_from}
 use Rattle.std.specs.Str.Parse.{digits_value}
 use Rattle.rule_lines.proofs.RangeLemmas.{addresses_of-parts}
-use Rattle.rule_lines.specs.Spread.{is_number, range_of}
+use Rattle.rule_lookup.specs.Spread.{is_number, range_of}
 use Rattle.rule_lines.proofs.spread.read_range.Goals as goal
 
 pub returns-in_err-low : goal.returns-in_err-low

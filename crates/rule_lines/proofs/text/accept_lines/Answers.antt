@@ -2,7 +2,7 @@
 use Rattle.std.proofs.Common.{◌≡◌, ◌∙◌, ◌+◌, [], sym, ap, subst, arith}
 use Rattle.std.proofs.lemmas.List.{nil_from_length}
 use Rattle.rule_lines.specs.Faults.{fault_in, first_faulty}
-use Rattle.rule_lines.specs.Lines.{has_byte, lines_of}
+use Rattle.rule_lookup.specs.Lines.{has_byte, lines_of}
 use Rattle.rule_lines.specs.RuleFaults.{IsPlain}
 use Rattle.rule_lines.proofs.KeepLemmas.{trimmed-part}
 use Rattle.rule_lines.proofs.ParseLemmas.{IsReadUpTo-more, IsReadUpTo-none, fault-read, trimmed-plain}

@@ -1,8 +1,8 @@
 -- A line with a colon that does not begin with `#` is a rule, and every other line is ignored.
 use Rattle.std.proofs.Common.{◌==◌, refl, sym}
 use Rattle.std.proofs.lemmas.Bool.{cond-true}
-use Rattle.rule_lines.specs.Pairs.{is_ignored}
-use Rattle.rule_lines.proofs.FoundLemmas.{position_or_len-found}
+use Rattle.rule_lookup.specs.Pairs.{is_ignored}
+use Rattle.rule_lookup.proofs.FoundLemmas.{position_or_len-found}
 use Rattle.rule_lines.proofs.FaultLemmas.{is_ignored-nowhere}
 use Rattle.rule_lines.proofs.KeepLemmas.{IsKeptOf-none}
 use Rattle.rule_lines.proofs.text.keep_line.Goals as goal

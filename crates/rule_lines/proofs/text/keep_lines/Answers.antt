@@ -1,7 +1,7 @@
 -- Each line leaves what is kept of it behind what was kept before.
 use Rattle.std.proofs.Common.{◌≡◌, ◌+◌, ◌-◌, ◌++◌, ◌∙◌, ◌<◌, None, length, take, drop, refl, sym, ap, subst, arith}
 use Rattle.rule_lines.specs.Kept.{IsKeptOf}
-use Rattle.rule_lines.specs.Lines.{has_byte, trimmed}
+use Rattle.rule_lookup.specs.Lines.{has_byte, trimmed}
 use Rattle.rule_lines.specs.Faults.{fault_in}
 use Rattle.rule_lines.specs.RuleFaults.{IsPlain}
 use Rattle.rule_lines.proofs.KeepLemmas.{IsKeptUpTo, IsKeptUpTo-more, plain-parts, room-kept, trimmed-part}

@@ -2,9 +2,9 @@
 use Rattle.std.proofs.Common.{◌≡◌, ℕ, List, ◌<◌, ◌+◌, ◌-◌, ◌++◌, ◌∷◌, [], length, take, drop, sym, ap, ◌∙◌, arith, length-append}
 use Rattle.std.proofs.lemmas.List.{length-take-le}
 use Rattle.std.proofs.lemmas.Result.{err_from_is_err_and}
-use Rattle.rule_lines.specs.Codes.{code_of}
-use Rattle.rule_lines.specs.Pairs.{address_in}
-use Rattle.rule_lines.specs.Spread.{is_bad_range, spread}
+use Rattle.rule_lookup.specs.Codes.{code_of}
+use Rattle.rule_lookup.specs.Pairs.{address_in}
+use Rattle.rule_lookup.specs.Spread.{is_bad_range, spread}
 use Rattle.rule_lines.proofs.FaultLemmas.{IsReadLine, Names-line, IsReadLine-added, address_in-cut, front-cut, instructions_in-cut, has_byte-colon}
 use Rattle.rule_lines.proofs.KeepLemmas.{IsKeptOf-read}
 use Rattle.rule_lines.proofs.text.keep_rule.Goals as goal

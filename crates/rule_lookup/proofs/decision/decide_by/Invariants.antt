@@ -1,6 +1,6 @@
 use Rattle.std.proofs.Common.{◌≡◌, map, drop, find, string_bytes}
 use Rattle.std.specs.List.{Any}
-use Rattle.rule_lines.specs.Lookups.{WhereKnown}
+use Rattle.rule_lookup.specs.Lookups.{WhereKnown}
 use Rattle.rule_lookup.specs.Decisions.{asked, is_there}
 use Rattle.rule_lookup.specs.Forms.{forms_of}
 use Rattle.rule_lookup.proofs.decision.decide_by.Given as goal

@@ -1,6 +1,6 @@
 use Rattle.std.proofs.Common.{◌≡◌, ◌++◌, ◌∷◌, [], List, ℕ, map, string_bytes, rules, ap, ◌∙◌}
 use Rattle.std.specs.Net.Text.{ipv4_text}
-use Rattle.rule_lines.specs.Spread.{folded}
+use Rattle.rule_lookup.specs.Spread.{folded}
 use Rattle.rule_lookup.specs.Forms.{user_at_address, user_at_host, host_alone, dotted_fronts, host_ends, any_host}
 use Rattle.rule_lookup.proofs.FormLemmas.{forms_joined}
 use Rattle.rule_lookup.proofs.form.forms.Goals as goal

@@ -1,5 +1,5 @@
 use Rattle.std.proofs.Common.{◌≡◌, ◌++◌, ◌∷◌, map, drop, string_bytes, ℕ, List}
-use Rattle.rule_lines.specs.Spread.{folded}
+use Rattle.rule_lookup.specs.Spread.{folded}
 use Rattle.rule_lookup.specs.Forms.{dotted_ends}
 use Rattle.rule_lookup.proofs.form.push_ends.Given as goal
 

@@ -1,5 +1,5 @@
 use Rattle.std.proofs.Common.{◌≡◌, ◌++◌, ◌∷◌, [], ℕ, List, arith, ap, ◌∙◌, map, string_bytes, ◌-◌, get_or, take, eqb}
-use Rattle.rule_lines.specs.Spread.{folded}
+use Rattle.rule_lookup.specs.Spread.{folded}
 use Rattle.std.proofs.lemmas.Str.{IsCharBoundary-after_ascii}
 use Rattle.rule_lookup.proofs.FormLemmas.{fronts_kept-dot, fronts_kept-other, eqb-other}
 use Rattle.rule_lookup.proofs.form.push_fronts.Goals as goal

@@ -1,5 +1,5 @@
 use Rattle.std.proofs.Common.{◌≡◌, ◌++◌, map, take, string_bytes}
-use Rattle.rule_lines.specs.Spread.{folded}
+use Rattle.rule_lookup.specs.Spread.{folded}
 use Rattle.rule_lookup.specs.Forms.{dotted_fronts}
 use Rattle.rule_lookup.proofs.form.push_fronts.Given as goal
 

@@ -1,6 +1,6 @@
 use Rattle.std.proofs.Common.{◌∙◌}
 use Rattle.memchr.specs.Find.{is_byte}
-use Rattle.rule_lines.proofs.FoundLemmas.{list_any-search}
+use Rattle.rule_lookup.proofs.FoundLemmas.{list_any-search}
 use Rattle.rule_warnings.proofs.client.contains.Goals as goal
 
 pub returns : goal.returns

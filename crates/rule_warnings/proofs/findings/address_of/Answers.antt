@@ -1,7 +1,7 @@
 use Rattle.std.proofs.Common.{◌==◌, sym, ap, arith}
 use Rattle.std.specs.Prelude.{take}
 use Rattle.rule_lines.proofs.FaultLemmas.{is_ignored-nowhere}
-use Rattle.rule_lines.proofs.FoundLemmas.{position_or_len-found}
+use Rattle.rule_lookup.proofs.FoundLemmas.{position_or_len-found}
 use Rattle.rule_warnings.proofs.LineLemmas.{is_ignored-rule, is_ignored-comment}
 use Rattle.rule_warnings.proofs.findings.address_of.Goals.{in_default-via-in-Some+else-line-ne35, in_default-via-in_default}
 use Rattle.rule_warnings.proofs.findings.address_of.Goals as goal

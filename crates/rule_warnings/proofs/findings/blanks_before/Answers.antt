@@ -1,5 +1,5 @@
 use Rattle.std.proofs.Common.{ap, sym, not, arith, ◌∙◌}
-use Rattle.rule_lines.specs.Lines.{is_blank}
+use Rattle.rule_lookup.specs.Lines.{is_blank}
 use Rattle.std.proofs.lemmas.List.Sums.{position_or_len_is}
 use Rattle.rule_warnings.proofs.findings.blanks_before.Goals as goal
 

@@ -1,5 +1,5 @@
 use Rattle.std.proofs.Common.{◌≡◌, ◌<◌, ◌≤◌, ◌-◌, ℕ, true, length, get_or}
-use Rattle.rule_lines.specs.Lines.{is_blank}
+use Rattle.rule_lookup.specs.Lines.{is_blank}
 use Rattle.rule_warnings.proofs.findings.blanks_before.Given as goal
 
 abbrev pub invariant-loop-count : goal.invariant-loop-count

@@ -1,6 +1,6 @@
 use Rattle.std.proofs.Common.{◌≡◌, ◌∙◌, ◌||◌, length, ap, arith, List, ℕ}
 use Rattle.std.specs.List.{list_any}
-use Rattle.rule_lines.specs.Lines.{trimmed}
+use Rattle.rule_lookup.specs.Lines.{trimmed}
 use Rattle.rule_warnings.specs.Names.{names_host}
 use Rattle.rule_warnings.specs.Warnings.{trimmed_lines}
 use Rattle.rule_warnings.proofs.ReportLemmas.{named-all, named-more}

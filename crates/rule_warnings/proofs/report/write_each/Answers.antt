@@ -1,6 +1,6 @@
 use Rattle.std.proofs.Common.{◌≡◌, ◌&&◌, ◌∙◌, ◌+◌, ℕ, List, [], ◌++◌, flat_map, length, ap, arith}
 use Rattle.std.specs.Prelude.{is_none}
-use Rattle.rule_lines.specs.Lines.{trimmed}
+use Rattle.rule_lookup.specs.Lines.{trimmed}
 use Rattle.rule_warnings.specs.Findings.{kinds_in}
 use Rattle.rule_warnings.specs.Tables.{line_under, noted_all}
 use Rattle.rule_warnings.specs.Warnings.{addresses_in, kinds_by, warning_line, warnings_at}

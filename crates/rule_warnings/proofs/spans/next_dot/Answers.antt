@@ -1,5 +1,5 @@
 use Rattle.std.proofs.Common.{◌==◌, ◌∙◌}
-use Rattle.rule_lines.proofs.FoundLemmas.{position_or_len-search}
+use Rattle.rule_lookup.proofs.FoundLemmas.{position_or_len-search}
 use Rattle.rule_warnings.proofs.spans.next_dot.Goals as goal
 
 pub returns-clause-value : goal.returns-clause-value

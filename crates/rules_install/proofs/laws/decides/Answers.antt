@@ -1,5 +1,5 @@
 use Rattle.std.proofs.Common.{◌∙◌, ap}
-use Rattle.rule_lines.specs.Pairs.{pairs_of}
+use Rattle.rule_lookup.specs.Pairs.{pairs_of}
 use Rattle.rule_lines.proofs.KnownLemmas.{AreRules-accepted}
 use Rattle.rule_lookup.specs.Decisions.{decision_by}
 use Rattle.rule_lookup.proofs.ListedLemmas.{decision_by-listed}

@@ -1,7 +1,7 @@
 -- Rule after rule gets the next position.
 use Rattle.std.proofs.Common.{◌∙◌, List, length, slice_get, sym, ap, subst, arith}
 use Rattle.std.proofs.lemmas.Option.{slice_get_within}
-use Rattle.rule_lines.specs.Pairs.{Rule}
+use Rattle.rule_lookup.specs.Pairs.{Rule}
 use Rattle.cdb_files.specs.Format.{hash_of}
 use Rattle.cdb_files.specs.Tables.{AddsEntry}
 use Rattle.rules_install.proofs.PieceLemmas.{past_from_none, stored-here, stored-none}

@@ -8,9 +8,9 @@ use Rattle.dir_calls.specs.Lasting.{LastsAmong}
 use Rattle.rules_install.specs.Filled.{whole_file}
 use Rattle.rules_install.specs.Installing.{next_phase}
 use Rattle.rules_install.specs.Installs.{installing}
-use Rattle.rules_install.specs.contracts.Phase.{the_type}
+use Rattle.dir_calls.specs.contracts.phase.Phase.{the_type}
 use Rattle.rules_install.specs.Series.{further, none}
-use Rattle.rules_install.specs.declared.Phase.TheVariants.{Done}
+use Rattle.dir_calls.specs.declared.phase.Phase.TheVariants.{Done}
 use Rattle.rules_install.proofs.WholeLemmas.{Progress, blames_run, done_lasts, ends_done, ends_run, failed_lasts, progress_more, progress_none, same_self, same_then, smaller, so_far, stays_consistent, stands_at_done, tells_where}
 use Rattle.rules_install.proofs.whole.finish.Given.{Over}
 use Rattle.rules_install.proofs.whole.finish.Goals as goal

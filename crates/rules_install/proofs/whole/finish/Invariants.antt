@@ -5,7 +5,7 @@ use Rattle.rules_install.specs.Installing.{Fits, IsConsistent}
 use Rattle.rules_install.specs.Installs.{installing}
 use Rattle.rules_install.specs.Series.{ComesTo}
 use Rattle.rules_install.specs.Steps.{IsSame}
-use Rattle.rules_install.specs.declared.Phase.TheVariants.{Done}
+use Rattle.dir_calls.specs.declared.phase.Phase.TheVariants.{Done}
 use Rattle.rules_install.proofs.WholeLemmas.{Progress, phases_left}
 use Rattle.rules_install.proofs.whole.finish.Given as goal
 

@@ -1,6 +1,6 @@
 use Rattle.std.proofs.Common.{◌≡◌, OnOk, IfErr, subst}
 use Rattle.std.proofs.lemmas.Result.{err_from_is_err_and, on_ok_weaker}
-use Rattle.rule_lines.specs.Pairs.{pairs_of}
+use Rattle.rule_lookup.specs.Pairs.{pairs_of}
 use Rattle.rules_install.specs.Filled.{IsWritten, whole_file}
 use Rattle.rules_install.specs.Installing.{Installing, HasForGood, begun}
 use Rattle.rules_install.specs.Installs.{installing}

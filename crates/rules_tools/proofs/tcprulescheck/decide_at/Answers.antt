@@ -4,11 +4,11 @@ use Rattle.std.specs.Option.{option_map, option_copied, IsSomeAnd}
 use Rattle.std.proofs.lemmas.Bool.{false≢true}
 use Rattle.cdb_files.specs.Reading.{reading}
 use Rattle.cdb_files.specs.Sources as cdb
-use Rattle.rule_lines.specs.declared.code.CodeFault.{CodeFault}
-use Rattle.rule_lines.specs.declared.code.CodeFault.TheVariants.{NotCode}
-use Rattle.rule_lines.specs.declared.source.FindFault.{FindFault}
-use Rattle.rule_lines.specs.declared.source.FindFault.TheVariants.{Short}
-use Rattle.rule_lines.specs.Lookups.{WhereKnown}
+use Rattle.rule_lookup.specs.declared.code.CodeFault.{CodeFault}
+use Rattle.rule_lookup.specs.declared.code.CodeFault.TheVariants.{NotCode}
+use Rattle.rule_lookup.specs.declared.source.FindFault.{FindFault}
+use Rattle.rule_lookup.specs.declared.source.FindFault.TheVariants.{Short}
+use Rattle.rule_lookup.specs.Lookups.{WhereKnown}
 use Rattle.rule_lookup.specs.declared.decision.DecideFault.{DecideFault}
 use Rattle.rule_lookup.specs.declared.decision.DecideFault.TheVariants.{Find, Code}
 use Rattle.rule_lookup.specs.declared.decision.Decision.{Decision}

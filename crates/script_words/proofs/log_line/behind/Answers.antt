@@ -1,5 +1,5 @@
 use Rattle.std.proofs.Common.{codes, sym, ap, ◌∙◌}
-use Rattle.rule_lines.specs.declared.instr.Verdict.{Verdict}
+use Rattle.rule_lookup.specs.declared.instr.Verdict.{Verdict}
 use Rattle.script_words.specs.LogLines.{behind}
 use Rattle.std.proofs.lemmas.Bool.Decides.{Decides-eqb}
 use Rattle.std.proofs.lemmas.Slice.Eq.{strip_prefix_is}

@@ -3,7 +3,7 @@ use Rattle.std.proofs.lemmas.Option.{none-some}
 use Rattle.std.proofs.lemmas.Result.{err_from_is_err_and}
 use Rattle.rules_install.specs.Installs.{installing}
 use Rattle.rules_install.specs.Installing.{next_phase}
-use Rattle.rules_install.specs.declared.Phase.{Phase}
+use Rattle.dir_calls.specs.declared.phase.Phase.{Phase}
 use Rattle.server_events.specs.ServerState.{ServerState, may_come}
 use Rattle.server_events.specs.declared.event.Event.TheVariants as event
 use Rattle.server_yard.specs.Registers.{roll_of}

@@ -5,7 +5,7 @@ use Rattle.cdb_files.specs.Parts.{bytes_at}
 use Rattle.cdb_files.proofs.CodePieces.{AddsCodes-setting, name-clean, no_end, no_equals, no_plus, no_setting, plus_and, value-clean}
 use Rattle.cdb_files.proofs.FaultLemmas.{SettingsFail-code}
 use Rattle.cdb_files.proofs.PieceLemmas.{length-bytes_at}
-use Rattle.rule_lines.specs.Lines.{has_byte}
+use Rattle.rule_lookup.specs.Lines.{has_byte}
 use Rattle.cdb_files.proofs.cdb_file.CdbFile.push_long.Goals.{then-has-via-then-has, then-has-via-else-has+then-has-2, then-has-via-else-has+else-has-2+then-has-3}
 use Rattle.cdb_files.proofs.cdb_file.CdbFile.push_long.Goals as goal
 

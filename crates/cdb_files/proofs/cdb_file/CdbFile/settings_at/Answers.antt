@@ -5,8 +5,8 @@ use Rattle.cdb_files.specs.Parts.{AddsCodes, bytes_at}
 use Rattle.cdb_files.proofs.CodePieces.{AreAll-ended, AreAll-next, AreAll-refused, AreAll-start, bytes_at-behind}
 use Rattle.cdb_files.proofs.FaultLemmas.{SettingsFail-same}
 use Rattle.cdb_files.proofs.PieceLemmas.{length-bytes_at}
-use Rattle.rule_lines.specs.Codes.{settings_in}
-use Rattle.rule_lines.specs.Lines.{pieces_of}
+use Rattle.rule_lookup.specs.Codes.{settings_in}
+use Rattle.rule_lookup.specs.Lines.{pieces_of}
 use Rattle.cdb_files.proofs.cdb_file.CdbFile.settings_at.Goals as goal
 
 pub returns-in_err-done-clause-refused : goal.returns-in_err-done-clause-refused

@@ -6,7 +6,7 @@ use Rattle.dir_calls.specs.Outcomes.{Fails, LeftBy}
 use Rattle.dir_calls.specs.Moments.{Elapses, Includes}
 use Rattle.dir_disk.specs.OsDir.{kept_back}
 use Rattle.dir_calls.specs.declared.fault.DirFault.TheVariants.{Device}
-use Rattle.dir_calls.proofs.FuseLemmas.{fails_idle}
+use Rattle.dir_calls.proofs.Passing.{fails_idle}
 use Rattle.dir_disk.proofs.KeptWrites.{kept_nowhere, kept_none}
 use Rattle.dir_disk.proofs.Told.{among_opens, on_ok_take, on_err_take, does_residual}
 use Rattle.dir_disk.proofs.os_dir.DiskDirDir.fresh.Given.{Over}

@@ -1,7 +1,7 @@
 -- A range is its parts with the number between them.
 use Rattle.std.proofs.Common.{◌++◌, ◌∙◌, decimal, sym, ap}
 use Rattle.std.proofs.lemmas.Result.{err_from_is_err_and}
-use Rattle.rule_lines.specs.Pairs.{Rule}
+use Rattle.rule_lookup.specs.Pairs.{Rule}
 use Rattle.rule_lines.proofs.RowLemmas.{get_or-range, position-range}
 use Rattle.rule_lines.proofs.list.Pair.append_parts.Goals as goal
 

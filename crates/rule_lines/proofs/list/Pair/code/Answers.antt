@@ -1,7 +1,7 @@
 -- The code is that of the instruction.
 use Rattle.std.proofs.Common.{◌∙◌, sym, ap}
-use Rattle.rule_lines.specs.Codes.{code_of}
-use Rattle.rule_lines.specs.Pairs.{Rule}
+use Rattle.rule_lookup.specs.Codes.{code_of}
+use Rattle.rule_lookup.specs.Pairs.{Rule}
 use Rattle.rule_lines.proofs.RowLemmas.{code_of-the_instr}
 use Rattle.rule_lines.proofs.list.Pair.code.Goals as goal
 

@@ -1,6 +1,6 @@
 -- The bytes of a pair are a code.
 use Rattle.std.proofs.Common.{refl}
-use Rattle.rule_lines.specs.Codes.{decoded}
+use Rattle.rule_lookup.specs.Codes.{decoded}
 use Rattle.rule_lines.proofs.RowLemmas.{IsCode-from_some}
 use Rattle.rule_lines.proofs.list.Pair.instr.Goals as goal
 

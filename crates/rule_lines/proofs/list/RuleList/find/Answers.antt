@@ -2,7 +2,7 @@
 use Rattle.std.proofs.Common.{◌∙◌, sym, ap}
 use Rattle.std.proofs.lemmas.Bool.{iff_false}
 use Rattle.rule_lines.specs.Kept.{rules_in, the_instr}
-use Rattle.rule_lines.specs.Lookups.{found_among, Has}
+use Rattle.rule_lookup.specs.Lookups.{found_among, Has}
 use Rattle.rule_lines.specs.ReadAddresses.{addresses_read}
 use Rattle.rule_lines.proofs.RowLemmas.{code_of-the_instr, found_among-named, found_among-unnamed}
 use Rattle.rule_lines.proofs.list.RuleList.find.Goals as goal

@@ -1,7 +1,7 @@
 -- The rules of the lines that are left have the answer.
 use Rattle.std.proofs.Common.{◌≡◌, length}
 use Rattle.rule_lines.specs.Kept.{AreKept, rules_in}
-use Rattle.rule_lines.specs.Lookups.{found_among}
+use Rattle.rule_lookup.specs.Lookups.{found_among}
 use Rattle.rule_lines.proofs.list.RuleList.find.Given as goal
 
 abbrev pub invariant-loop-rest : goal.invariant-loop-rest

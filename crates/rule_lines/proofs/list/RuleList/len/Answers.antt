@@ -1,6 +1,6 @@
 -- The list counts its rules, and keeps the codes of their instructions.
 use Rattle.std.proofs.Common.{arith, ap, length, subst}
-use Rattle.rule_lines.specs.Rows.{AreRules}
+use Rattle.rule_lookup.specs.Codes.{AreRules}
 use Rattle.rule_lines.proofs.KnownLemmas.{AreRules-kept}
 use Rattle.rule_lines.proofs.list.RuleList.len.Goals as goal
 

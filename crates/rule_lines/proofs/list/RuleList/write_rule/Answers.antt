@@ -2,7 +2,7 @@
 use Rattle.std.proofs.Common.{◌≤◌, List, false, true, length, slice_get, refl, sym, subst, arith}
 use Rattle.std.proofs.lemmas.Option.{slice_get_past}
 use Rattle.rule_lines.specs.Kept.{IsStored, rules_in}
-use Rattle.rule_lines.specs.Pairs.{Rule}
+use Rattle.rule_lookup.specs.Pairs.{Rule}
 use Rattle.rule_lines.proofs.OpenLemmas.{IsStored-range}
 use Rattle.rule_lines.proofs.list.RuleList.write_rule.Goals as goal
 

@@ -1,7 +1,7 @@
 use Rattle.std.proofs.Common.{List, ℕ, ◌<◌, ◌^◌, ◌++◌, drop, zero-le, refl, ap, sym, subst, arith}
 use Rattle.cdb_files.specs.Image.{finished_length}
 use Rattle.cdb_files.specs.Compiled.{stored}
-use Rattle.rule_lines.specs.Pairs.{Rule}
+use Rattle.rule_lookup.specs.Pairs.{Rule}
 use Rattle.rules_install.specs.declared.pieces.Piece.TheVariants.{Unset}
 use Rattle.rules_install.specs.Pieces.{from_piece}
 use Rattle.rules_install.proofs.StepBegins.{none_reached, not_whole}

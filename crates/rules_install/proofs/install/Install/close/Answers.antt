@@ -3,7 +3,7 @@ use Rattle.std.specs.Prelude.{Err, Contains}
 use Rattle.dir_calls.specs.declared.fault.DirFault.TheVariants.{NoScratch, Device, OutOfMemory as NoMemory}
 use Rattle.dir_calls.specs.Calls.{syncs}
 use Rattle.dir_calls.proofs.Lasting.{syncs_keeps}
-use Rattle.rules_install.specs.declared.Phase.TheVariants.{Synced}
+use Rattle.dir_calls.specs.declared.phase.Phase.TheVariants.{Synced}
 use Rattle.rules_install.specs.Installs.{installing}
 use Rattle.rules_install.proofs.StepCalls.{call_steps}
 use Rattle.rules_install.proofs.StepFaults.{of_err, among_three}

@@ -5,8 +5,8 @@ use Rattle.std.proofs.lemmas.Result.{err_from_is_err_and, IfOk-at_ok}
 use Rattle.std.proofs.lemmas.List.{take_rest}
 use Rattle.dir_calls.specs.Calls.{appends}
 use Rattle.dir_calls.proofs.Lasting.{appends_keeps}
-use Rattle.rules_install.specs.declared.Phase.{Phase}
-use Rattle.rules_install.specs.declared.Phase.TheVariants.{Filling}
+use Rattle.dir_calls.specs.declared.phase.Phase.{Phase}
+use Rattle.dir_calls.specs.declared.phase.Phase.TheVariants.{Filling}
 use Rattle.rules_install.specs.declared.fault.InstallFault.{InstallFault}
 use Rattle.rules_install.specs.Filled.{blank_file, fillings_left}
 use Rattle.rules_install.specs.Pieces.{from_piece}

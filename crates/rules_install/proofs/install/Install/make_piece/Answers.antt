@@ -1,5 +1,5 @@
 use Rattle.std.proofs.Common.{List, ℕ, ◌≡◌, ◌++◌, ◌^◌, ◌<◌, ◌≤◌, true, [], length, drop, refl, sym, subst, arith}
-use Rattle.rule_lines.specs.Pairs.{Rule}
+use Rattle.rule_lookup.specs.Pairs.{Rule}
 use Rattle.cdb_files.specs.Image.{finished_length}
 use Rattle.cdb_files.specs.Compiled.{stored}
 use Rattle.rules_install.specs.Filled.{blank_file}

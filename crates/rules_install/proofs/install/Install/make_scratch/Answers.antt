@@ -3,7 +3,7 @@ use Rattle.std.specs.Prelude.{Contains}
 use Rattle.dir_calls.specs.declared.fault.DirFault.TheVariants.{Device, OutOfMemory as NoMemory}
 use Rattle.dir_calls.specs.Calls.{makes}
 use Rattle.dir_calls.proofs.Lasting.{makes_keeps}
-use Rattle.rules_install.specs.declared.Phase.TheVariants.{Fresh}
+use Rattle.dir_calls.specs.declared.phase.Phase.TheVariants.{Fresh}
 use Rattle.rules_install.specs.Installs.{installing}
 use Rattle.rules_install.proofs.StepCalls.{OneCall, call_steps}
 use Rattle.rules_install.proofs.StepFaults.{of_err, among_two}

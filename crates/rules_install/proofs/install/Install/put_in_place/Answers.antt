@@ -3,7 +3,7 @@ use Rattle.std.specs.Prelude.{Err, None, Contains}
 use Rattle.dir_calls.specs.declared.fault.DirFault.TheVariants.{NoName, Device, OutOfMemory as NoMemory}
 use Rattle.dir_calls.specs.Directory.{number_of}
 use Rattle.dir_calls.specs.Calls.{Call, renames}
-use Rattle.rules_install.specs.declared.Phase.TheVariants.{Named}
+use Rattle.dir_calls.specs.declared.phase.Phase.TheVariants.{Named}
 use Rattle.rules_install.specs.Filled.{whole_file}
 use Rattle.rules_install.specs.Installing.{synced_file}
 use Rattle.rules_install.specs.Installs.{installing}

@@ -2,7 +2,7 @@ use Rattle.std.proofs.Common.{◌≡◌, inr, refl, subst}
 use Rattle.dir_calls.specs.declared.fault.DirFault.TheVariants.{Device, OutOfMemory as NoMemory}
 use Rattle.dir_calls.specs.Calls.{settles}
 use Rattle.dir_calls.proofs.Lasting.{settles_keeps}
-use Rattle.rules_install.specs.declared.Phase.TheVariants.{Done}
+use Rattle.dir_calls.specs.declared.phase.Phase.TheVariants.{Done}
 use Rattle.rules_install.specs.Installing.{FitsPhase, synced_file}
 use Rattle.rules_install.specs.Installs.{installing}
 use Rattle.rules_install.proofs.StepCalls.{call_steps}

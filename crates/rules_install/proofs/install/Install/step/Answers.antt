@@ -1,7 +1,7 @@
 -- Each way through a step promises the same.
 use Rattle.std.proofs.Common.{◌<◌, true, false, ◌∙◌, ap}
 use Rattle.std.specs.Prelude.{Some, None}
-use Rattle.rules_install.specs.declared.Phase.TheVariants.{Fresh, Filling, Synced, Named, Done}
+use Rattle.dir_calls.specs.declared.phase.Phase.TheVariants.{Fresh, Filling, Synced, Named, Done}
 use Rattle.rules_install.specs.Filled.{fillings_left}
 use Rattle.rules_install.specs.Installs.{installing}
 use Rattle.rules_install.proofs.StepEnds.{next_is, next_filled, not_done, named_not_done, over_ends, done_ends, step_ends, no_filling, of_ok}

@@ -1,6 +1,6 @@
 -- Once each rule has its position, the tables are those of the file.
 use Rattle.std.proofs.Common.{◌≡◌, ℕ, List, IfOk, ap, ◌∙◌, subst, arith}
-use Rattle.rule_lines.specs.Pairs.{Rule}
+use Rattle.rule_lookup.specs.Pairs.{Rule}
 use Rattle.cdb_files.specs.Image.{header_bytes, pointers_of}
 use Rattle.cdb_files.specs.Compiled.{stored}
 use Rattle.rules_install.proofs.LayoutLemmas.{AreTablesOf-all}

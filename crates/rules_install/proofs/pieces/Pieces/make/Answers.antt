@@ -1,7 +1,7 @@
 use Rattle.std.proofs.Common.{◌≡◌, ℕ, ◌+◌, ◌<◌, List, [], ◌++◌, Some, IfOk, MatchOption, drop, length, replicate, slice_get, refl, sym, ap, ◌∙◌, subst, arith}
 use Rattle.std.proofs.lemmas.List.{length-replicate}
-use Rattle.rule_lines.specs.Codes.{code_of}
-use Rattle.rule_lines.specs.Pairs.{Rule}
+use Rattle.rule_lookup.specs.Codes.{code_of}
+use Rattle.rule_lookup.specs.Pairs.{Rule}
 use Rattle.cdb_files.specs.Format.{hash_of, record_bytes, record_of, records_of}
 use Rattle.cdb_files.specs.Image.{tables_of}
 use Rattle.cdb_files.specs.Tables.{AddsEntry}

@@ -1,7 +1,7 @@
 use Rattle.std.proofs.Common.{◌<◌, ◌^◌, List, subst}
 use Rattle.cdb_files.specs.Image.{finished_length}
 use Rattle.cdb_files.specs.Compiled.{stored}
-use Rattle.rule_lines.specs.Pairs.{Rule}
+use Rattle.rule_lookup.specs.Pairs.{Rule}
 use Rattle.rules_install.proofs.pieces.Pieces.written.Goals as goal
 
 pub returns : goal.returns

@@ -1,5 +1,5 @@
 use Rattle.std.proofs.Common.{◌<◌, arith, ap}
-use Rattle.dir_calls.specs.MemDir.{mem_state}
+use Rattle.memory_dirs.specs.MemDir.{mem_state}
 use Rattle.script_tool.specs.Texts.{position_of, position_reached}
 use Rattle.script_tool.proofs.ProgressLemmas.{advances_more, arrives, not_done, placed}
 use Rattle.script_tool.proofs.simulation.Progress.advance.Goals as goal

@@ -1,4 +1,4 @@
-use Rattle.dir_calls.specs.MemDir.{mem_state}
+use Rattle.memory_dirs.specs.MemDir.{mem_state}
 use Rattle.rules_install.specs.Installs.{installing}
 use Rattle.script_tool.specs.Kept.{steps_left}
 use Rattle.script_tool.proofs.ProgressLemmas.{Advances}

@@ -1,5 +1,5 @@
 use Rattle.std.proofs.Common.{◌≡◌, refl, sym, ◌∙◌, arith}
-use Rattle.dir_calls.specs.MemDir.{mem_state}
+use Rattle.memory_dirs.specs.MemDir.{mem_state}
 use Rattle.rules_install.specs.Installing.{next_phase}
 use Rattle.rules_install.specs.Installs.{installing}
 use Rattle.rules_install.specs.declared.fault.InstallFault.TheVariants.{OutOfMemory}

@@ -1,7 +1,7 @@
 use Rattle.std.proofs.Common.{◌++◌, Option, ap, ◌∙◌}
 use Rattle.std.proofs.lemmas.Result.{on_ok_weaker}
-use Rattle.dir_calls.specs.MemDir.{mem_state}
-use Rattle.rules_install.specs.declared.Phase.{Phase}
+use Rattle.memory_dirs.specs.MemDir.{mem_state}
+use Rattle.dir_calls.specs.declared.phase.Phase.{Phase}
 use Rattle.script_tool.specs.Replies.{reached_line}
 use Rattle.script_tool.proofs.GoLemmas.{GoesTo, GoesTo-none, GoesTo-some}
 use Rattle.script_tool.proofs.InstallLemmas.{IsOfBegun-some}

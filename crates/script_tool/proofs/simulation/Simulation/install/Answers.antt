@@ -1,7 +1,7 @@
 use Rattle.std.proofs.Common.{[], ◌++◌, List, ℕ, Option, None, codes, sym, ap, subst, ◌∙◌}
 use Rattle.std.proofs.lemmas.Result.{on_ok_weaker}
-use Rattle.dir_calls.specs.MemDir.{mem_state}
-use Rattle.rules_install.specs.declared.Phase.TheVariants.{Done}
+use Rattle.memory_dirs.specs.MemDir.{mem_state}
+use Rattle.dir_calls.specs.declared.phase.Phase.TheVariants.{Done}
 use Rattle.rules_install.specs.Whole.{MayBeInstalled, RefusesText}
 use Rattle.script_tool.specs.Kept.{HasTexts, IsAt}
 use Rattle.rules_tools.specs.Reviews.{profile}

@@ -1,6 +1,6 @@
 use Rattle.std.proofs.Common.{List, ℕ, Option, refl, sym, ap, subst, ◌∙◌}
 use Rattle.dir_calls.specs.Directory.{content}
-use Rattle.dir_calls.specs.MemDir.{mem_state}
+use Rattle.memory_dirs.specs.MemDir.{mem_state}
 use Rattle.script_tool.specs.Kept.{Reads}
 use Rattle.script_tool.proofs.ReaderLemmas.{Reads-content, map_same}
 use Rattle.script_tool.proofs.simulation.Simulation.open.Goals as goal

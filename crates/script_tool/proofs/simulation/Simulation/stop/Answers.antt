@@ -1,5 +1,5 @@
 use Rattle.std.proofs.lemmas.Result.{on_ok_weaker}
-use Rattle.dir_calls.specs.MemDir.{mem_state}
+use Rattle.memory_dirs.specs.MemDir.{mem_state}
 use Rattle.rule_lookup.proofs.AppendLemmas.{on_ok_added}
 use Rattle.script_tool.proofs.TextLemmas.{stop_texts}
 use Rattle.script_tool.proofs.simulation.Simulation.stop.Goals as goal

@@ -11,7 +11,7 @@ use Rattle.server_events.proofs.Peers.{stage_of-peer_of}
 use Rattle.server_yard.specs.Rooms.{room_needed}
 use Rattle.server_yard.specs.Seating.{HasSeats}
 use Rattle.server_yard.proofs.Histories.{distinct, has_history_on, nothing}
-use Rattle.server_yard.proofs.Leaving.{left_at, spare_is}
+use Rattle.server_yard.proofs.Gone.{left_at, spare_is}
 use Rattle.server_yard.proofs.Peopled.{leaver_fits, not_retired}
 use Rattle.server_yard.proofs.RoomLemmas.{goes_off, room-without}
 use Rattle.server_yard.proofs.Seating.{seats_go}

@@ -4,7 +4,7 @@ use Rattle.std.specs.Prelude.{◌==◌, IfSome, Ok, Err, if◌then◌else◌}
 use mathlib.Core.Logic.{∥∥₁_map}
 use Rattle.rules_install.specs.Installing.{Fits, Installing, next_phase}
 use Rattle.rules_install.specs.Installs.{installing}
-use Rattle.rules_install.specs.declared.Phase.TheVariants.{Done}
+use Rattle.dir_calls.specs.declared.phase.Phase.TheVariants.{Done}
 use Rattle.rules_install.specs.declared.fault.InstallFault.TheVariants.{Over}
 use Rattle.server_yard.specs.Installed.{KeepsHistory}
 use Rattle.server_yard.specs.Kept.{installing_of, is_kept, phase_of, rules_of}

@@ -10,6 +10,6 @@ use Rattle.whole_yard.proofs.yard_agent.YardAgentAgent.dropped.Goals as goal
 pub returns-clause-told : goal.returns-clause-told
 returns-clause-told g c =
     let old = c.args.self.now.yard in
-    let new = c.dropped.new.self in
+    let new = c.left.new.self in
     subst (λ (n : ℕ). MakesEvent (LeadsOn (Dropped n c.args.cause)) (Dropped n c.args.cause) old new)
-    (ap number_at c.requires.stands.there.seat) (record { noted = c.dropped.ensures.noted; step = c.dropped.ensures.step })
+    (ap number_at c.requires.stands.there.seat) (record { noted = c.left.ensures.noted; step = c.left.ensures.step })

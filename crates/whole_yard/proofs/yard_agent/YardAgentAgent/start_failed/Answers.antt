@@ -10,6 +10,6 @@ use Rattle.whole_yard.proofs.yard_agent.YardAgentAgent.start_failed.Goals as goa
 pub returns-clause-told : goal.returns-clause-told
 returns-clause-told g c =
     let old = c.args.self.now.yard in
-    let new = c.start_failed.new.self in
+    let new = c.left.new.self in
     subst (λ (n : ℕ). MakesEvent (LeadsOn (StartFailed n c.args.fault)) (StartFailed n c.args.fault) old new)
-    (ap number_at c.requires.stands.seat) (record { noted = c.start_failed.ensures.noted; step = c.start_failed.ensures.step })
+    (ap number_at c.requires.stands.seat) (record { noted = c.left.ensures.noted; step = c.left.ensures.step })

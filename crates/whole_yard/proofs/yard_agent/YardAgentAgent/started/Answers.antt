@@ -2,7 +2,7 @@
 use Rattle.std.proofs.Common.{ap, subst, ◌∙◌}
 use Rattle.std.specs.Prelude.{ℕ}
 use Rattle.child_jobs.specs.Runs.{place_of}
-use Rattle.rule_lines.specs.declared.instr.Verdict.TheVariants.{Allow}
+use Rattle.rule_lookup.specs.declared.instr.Verdict.TheVariants.{Allow}
 use Rattle.server_events.specs.ServerState.{after}
 use Rattle.server_events.specs.declared.event.Event.TheVariants.{Started}
 use Rattle.server_events.specs.declared.event.Stage.TheVariants as stage

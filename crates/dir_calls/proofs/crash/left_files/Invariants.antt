@@ -1,8 +1,0 @@
-use Rattle.std.proofs.Common.{◌≡◌, take}
-use Rattle.std.specs.Prelude.{map}
-use Rattle.dir_calls.specs.Stored.{file_of}
-use Rattle.dir_calls.specs.Stop.{stopped_file}
-use Rattle.dir_calls.proofs.crash.left_files.Given as goal
-
-abbrev pub invariant-loop-file : goal.invariant-loop-file
-invariant-loop-file l = map file_of l.left.items ≡ map (stopped_file l.choice) (map file_of (take l.file-index l.files))

@@ -1,6 +1,0 @@
-use Rattle.dir_calls.specs.Folder.{directory_of}
-use Rattle.dir_calls.proofs.History.{step_more}
-use Rattle.dir_disk.proofs.mem_disk.MemDiskDisk.close.Goals as goal
-
-pub returns-clause-time : goal.returns-clause-time
-returns-clause-time c = λ honest. step_more c.args.self.now.past.items c.and-past.result.items c.args.self.now.folder (directory_of c.leave.new.self) c.and-past.ensures

@@ -1,0 +1,4 @@
+pub mod EntryLists
+pub mod History
+pub mod InMemory
+pub mod Results

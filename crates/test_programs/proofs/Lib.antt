@@ -1,0 +1,2 @@
+pub mod FuseLemmas
+pub mod MemWrites

@@ -1,0 +1,311 @@
+//! A disk in memory.
+ghost use Rattle.std.specs.Prelude.{◌≡◌, ◌≢◌, ◌≤◌, ◌<◌, ◌+◌, ◌^◌, Some, IfErr, IfOk, OnErr, length, map, slice_get, take, true};
+ghost use Rattle.std.specs.IoError.{error_kind};
+ghost use Rattle.memory_dirs.specs.Folder.{directory_of, empty_directory};
+ghost use Rattle.memory_dirs.specs.Stored.{open_length};
+ghost use Rattle.dir_disk.specs.DiskSteps.{after_write};
+ghost use Rattle.memory_dirs.specs.Past.{left_now, past_call};
+ghost use Rattle.test_programs.specs.MemDisk.{HasContent, mem_disk_left_since, mem_disk_moment, mem_disk_state, path_name};
+ghost use Rattle.std.proofs.Common.{inl, refl};
+
+use dir_calls::{Name, RulesFile};
+use dir_disk::{Disk, DiskFile, Look};
+use http_server::Log;
+use memory_dirs::{Folder, MemFile};
+use std::alloc::{AllocError, Global};
+use std::io::{self, ErrorKind};
+
+/// How many bytes a name has at most.
+const LONGEST: usize = 255;
+
+/// A disk in memory, for tests. Each call does what its clauses say, and succeeds if one of a real disk would, unless
+/// there is no memory. A synced file is written no more. So it is a witness that a disk can keep all clauses.
+#[derive(Drop)]
+pub struct MemDisk {
+    alloc: Global,
+    folder: Folder,
+    // what stood there before each call that did something; no call passes through another state
+    past: Log<Folder, Option<Name>>,
+}
+
+/// The path of a name on a disk in memory.
+#[derive(Drop)]
+pub struct MemPath {
+    bytes: [u8; LONGEST],
+    count: usize,
+}
+
+/// The folder of a disk in memory, opened.
+#[derive(Drop)]
+pub struct MemFolder;
+
+/// An opened file of a disk in memory.
+#[derive(Drop)]
+pub struct MemHandle {
+    number: usize,
+    // its bytes, if it was opened to be read
+    content: Option<MemFile>,
+}
+
+/// A file of a disk in memory, opened to be read.
+#[derive(Drop)]
+pub struct MemDiskFile {
+    file: MemFile,
+}
+
+// The fault of a call for which there is no such file or name.
+fn not_opened() -> io::Error
+    ensures { error_kind result ≡ ErrorKind.Other }
+{
+    io::Error::from(ErrorKind::Other)
+}
+
+impl MemDisk {
+    /// An empty disk. It takes no memory.
+    pub fn new(alloc: Global) -> MemDisk
+        ensures { mem_disk_state result ≡ empty_directory }
+    {
+        MemDisk {
+            alloc,
+            folder: Folder::new(alloc),
+            past: Log::new(),
+        }
+    }
+}
+
+impl MemPath {
+    // the name that was put into it
+    fn name(&self) -> &[u8]
+        ensures { result.now ≡ path_name self.now }
+    {
+        &self.bytes[..self.count.min(LONGEST)]
+    }
+}
+
+// Want of memory, as an error of the system.
+fn no_memory(_: AllocError) -> io::Error
+    ensures { error_kind result ≡ ErrorKind.OutOfMemory }
+{
+    io::Error::from(ErrorKind::OutOfMemory)
+}
+
+// Writes bytes into the scratch file from a position on, over those that stand there or at its end. The answer is how
+// many.
+fn write(
+    folder: &mut Folder,
+    number: usize,
+    size: usize,
+    position: u64,
+    bytes: &[u8],
+) -> io::Result<usize>
+    requires last { (directory_of folder.old).scratch ≡ Some number }
+    requires open { open_length (slice_get (directory_of folder.old).files number) ≡ Some size }
+    requires inside { position ≤ size }
+    ensures count { IfOk result (λ n. n ≤ length bytes.now) }
+    ensures fits { IfOk result (λ n. position + n < 2 ^ 63) }
+    ensures done { IfOk result (λ n.
+        directory_of folder.new ≡ after_write position (take n bytes.now) (directory_of folder.old)) }
+    ensures failed { OnErr result (directory_of folder.new ≡ directory_of folder.old) }
+    ensures fault { IfErr result (λ error. error_kind error ≢ ErrorKind.Interrupted) }
+{
+    if position.saturating_add(bytes.len() as u64) >= 1 << 63 {
+        return Err(not_opened());
+    }
+    let position = position as usize;
+    if position == size {
+        folder.append(number, bytes).map_err(no_memory)?;
+        return Ok(bytes.len());
+    }
+    let count = bytes.len().min(size - position);
+    folder.patch(number, position, &bytes[..count]);
+    Ok(count)
+}
+
+impl DiskFile for MemDiskFile {
+    ghost bytes = { λ f. f.file };
+
+    ghost honest = { true };
+
+    fn read_at(&self, position: u64, buf: &mut [u8]) -> io::Result<usize> {
+        match self.file.read_at(position, buf) {
+            Ok(count) => Ok(count),
+            Err(_) => Err(not_opened()),
+        }
+    }
+}
+
+impl Disk for MemDisk {
+    type Path = MemPath;
+
+    type Folder = MemFolder;
+
+    type Handle = MemHandle;
+
+    type File = MemDiskFile;
+
+    ghost state = { mem_disk_state };
+
+    ghost honest = { true };
+
+    ghost moment = { mem_disk_moment };
+
+    ghost left_since = { mem_disk_left_since };
+
+    ghost named = { path_name };
+
+    ghost number = { λ handle. handle.number };
+
+    ghost regular = { λ _. true };
+
+    ghost identity = { λ number. (0, number) };
+
+    ghost known = { HasContent };
+
+    ghost counts_now = { λ disk earlier image honest le now. inl now };
+
+    ghost only_now = { λ disk image honest left.
+        left_now (map past_call disk.past.items) (directory_of disk.folder) image left };
+
+    ghost honest_files = { refl };
+
+    fn room(&self, alloc: Global) -> Result<MemPath, AllocError> {
+        Ok(MemPath {
+            bytes: [0; LONGEST],
+            count: 0,
+        })
+    }
+
+    fn put_path(&self, path: &mut MemPath, name: &Name) {
+        let bytes = name.as_str().as_bytes();
+        path.bytes[..bytes.len()].copy_from_slice(bytes);
+        path.count = bytes.len();
+    }
+
+    fn open_folder(&self) -> io::Result<MemFolder> {
+        Ok(MemFolder)
+    }
+
+    fn sync_folder(&mut self, folder: &MemFolder) -> io::Result<()> {
+        let past = self.past.and(&self.folder, &None);
+        self.folder.settle();
+        self.past = past;
+        Ok(())
+    }
+
+    fn unlink(&mut self, folder: &MemFolder, path: &MemPath) -> io::Result<()> {
+        let past = self.past.and(&self.folder, &None);
+        let stood = self
+            .folder
+            .take(self.alloc, path.name())
+            .map_err(no_memory)?;
+        if !stood {
+            return Err(io::Error::from(ErrorKind::NotFound));
+        }
+        self.past = past;
+        Ok(())
+    }
+
+    fn create(&mut self, folder: &MemFolder, path: &MemPath, mode: u32) -> io::Result<MemHandle> {
+        if self.folder.number(path.name()).is_some() {
+            return Err(io::Error::from(ErrorKind::AlreadyExists));
+        }
+        let past = self.past.and(&self.folder, &None);
+        self.folder
+            .make(self.alloc, path.name())
+            .map_err(no_memory)?;
+        self.past = past;
+        match self.folder.scratch() {
+            Some(number) => Ok(MemHandle {
+                number,
+                content: None,
+            }),
+            None => unreachable!("it was made"),
+        }
+    }
+
+    fn write_at(&mut self, file: &MemHandle, position: u64, bytes: &[u8]) -> io::Result<usize> {
+        let Some(size) = self.folder.open_length(file.number) else {
+            return Err(not_opened());
+        };
+        let past = self.past.and(&self.folder, &None);
+        let count = write(&mut self.folder, file.number, size, position, bytes)?;
+        self.past = past;
+        Ok(count)
+    }
+
+    fn sync(&mut self, file: &MemHandle) -> io::Result<()> {
+        let past = self.past.and(&self.folder, &None);
+        self.folder
+            .last(self.alloc, file.number)
+            .map_err(no_memory)?;
+        self.past = past;
+        Ok(())
+    }
+
+    fn close(&mut self, file: &MemHandle) {
+        let past = self.past.and(&self.folder, &None);
+        self.folder.leave();
+        self.past = past;
+    }
+
+    fn rename(
+        &mut self,
+        folder: &MemFolder,
+        file: &MemHandle,
+        from: &MemPath,
+        to: &MemPath,
+    ) -> io::Result<()> {
+        let Some(number) = self.folder.number(from.name()) else {
+            return Err(io::Error::from(ErrorKind::NotFound));
+        };
+        if number != file.number {
+            return Err(not_opened());
+        }
+        let past = self.past.and(&self.folder, &None);
+        self.folder
+            .rename(self.alloc, from.name(), to.name(), number)
+            .map_err(no_memory)?;
+        self.past = past;
+        Ok(())
+    }
+
+    fn is_file(&self, path: &MemPath) -> io::Result<bool> {
+        match self.folder.number(path.name()) {
+            Some(_) => Ok(true),
+            None => Err(io::Error::from(ErrorKind::NotFound)),
+        }
+    }
+
+    fn open(&self, path: &MemPath) -> io::Result<MemHandle> {
+        let Some(number) = self.folder.number(path.name()) else {
+            return Err(io::Error::from(ErrorKind::NotFound));
+        };
+        let content = self
+            .folder
+            .open(self.alloc, path.name())
+            .map_err(no_memory)?;
+        if content.is_none() {
+            return Err(not_opened());
+        }
+        Ok(MemHandle { number, content })
+    }
+
+    fn look(&self, file: &MemHandle) -> io::Result<Look> {
+        let Some(size) = self.folder.length(file.number) else {
+            return Err(not_opened());
+        };
+        Ok(Look {
+            is_file: true,
+            len: size as u64,
+            device: 0,
+            inode: file.number as u64,
+        })
+    }
+
+    fn reading(&self, file: MemHandle) -> MemDiskFile {
+        match file.content {
+            Some(file) => MemDiskFile { file },
+            None => unreachable!("it was opened to be read"),
+        }
+    }
+}

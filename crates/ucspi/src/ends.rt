@@ -1,0 +1,58 @@
+//! How the tool ends, by how its server did.
+ghost use Rattle.std.specs.Prelude.{◌≡◌, true, Ok, Err, None, IfOk, IfErr, OnErr, OnOk};
+ghost use Rattle.server_parts.specs.declared.fault.ServerFault.TheVariants.{LostConnection};
+ghost use Rattle.ucspi.specs.Ends.{told_of};
+ghost use Rattle.server_yard.specs.Yards.{HasRun};
+
+use server_parts::{ServerFailure, ServerFault};
+use tcp_service::{Acceptor, Closed, Host, ServeEnd, Unfinished};
+
+/// A server has served as many connections as its words say, or all for which there are numbers, and is closed. Only
+/// what such a server gave makes one.
+#[derive(Drop)]
+pub struct Finished(());
+
+// How the tool ends, by how its server did and the system's last error of accepting. The events of its site were a run.
+pub(crate) fn end_of<H: Host, A: Acceptor + Drop>(
+    served: Result<Closed<H, A>, Unfinished<H>>,
+) -> Result<Finished, ServerFailure>
+    requires servers { H.is_servers ≡ true }
+    requires new { H.Callers.before ≡ 0 }
+    ensures ran { IfOk served (λ closed. HasRun closed.yard) }
+    ensures ran_too { IfErr served (λ unfinished. HasRun unfinished.yard) }
+    ensures finished { OnOk result (IfOk served (λ closed.
+        told_of closed.end (A.last_error closed.acceptor) ≡ Ok tt)) }
+    ensures closed { IfErr result (λ failure. IfOk served (λ closed.
+        told_of closed.end (A.last_error closed.acceptor) ≡ Err failure)) }
+    ensures lost { OnErr served (result ≡ Err (record { fault = LostConnection; error = None })) }
+{
+    match served {
+        Ok(closed) => {
+            let (end, error) = (closed.end, closed.acceptor.error());
+            drop(closed);
+            match failure_of(end, error) {
+                Ok(()) => Ok(Finished(())),
+                Err(failure) => Err(failure),
+            }
+        }
+        Err(unfinished) => {
+            drop(unfinished);
+            Err(ServerFailure::from(ServerFault::LostConnection))
+        }
+    }
+}
+
+// Why the tool fails, by how its server ended and this error.
+fn failure_of(end: ServeEnd, error: Option<i32>) -> Result<(), ServerFailure>
+    ensures { result ≡ told_of end error }
+{
+    match end {
+        ServeEnd::Count | ServeEnd::Spent => Ok(()),
+        ServeEnd::NoPlaces => Err(ServerFailure::from(ServerFault::NoPlaces)),
+        ServeEnd::AcceptFaults => Err(ServerFailure {
+            fault: ServerFault::AcceptFault,
+            error,
+        }),
+        ServeEnd::OutOfMemory => Err(ServerFailure::from(ServerFault::OutOfMemory)),
+    }
+}

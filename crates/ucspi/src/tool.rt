@@ -1,0 +1,339 @@
+//! The tool: its words, what it opens, and the server.
+ghost use Rattle.std.specs.Prelude.{◌≡◌, ◌⊎◌, false, map, IfOk, IfErr, vec_len};
+ghost use Rattle.fault_hints.specs.Voices.{mode_by_name};
+ghost use Rattle.server_parts.specs.Asked.{FailsNames, starts_in};
+ghost use Rattle.server_parts.specs.Services.{AreRulesOf};
+ghost use Rattle.server_parts.specs.declared.fault.ServerFault.TheVariants.{CannotListen, OutOfMemory, WriteFault};
+ghost use Rattle.ucspi.specs.Asked.{AcceptsAsAsked, AreAsked, AreAskedLimits, IsAskedLog, IsAskedService};
+ghost use Rattle.ucspi.specs.Words.{AnswersWords};
+ghost use Rattle.server_words.specs.Operands.{texts};
+ghost use Rattle.server_words.specs.Plans.{plan_of as plan_by_words};
+ghost use Rattle.server_yard.specs.Kept.{rules_of};
+ghost use Rattle.server_yard.specs.Yards.{yard_books, yard_rules, yard_server};
+ghost use Rattle.shared_site.specs.Callers.{total_share};
+ghost use Rattle.stream_tools.specs.Programs.{text_in, texts_of};
+
+use crate::ends::{Finished, end_of};
+use crate::no_folder::NoFolder;
+use crate::rules::FolderRules;
+use crate::system::{OnSystem, System, SystemOf};
+use child_jobs::Plan;
+use dir_calls::Name;
+use fault_hints::Voice;
+use rule_lookup::WhenMissing;
+use server_events::Journal;
+use server_parts::causes::{tell_failure, tell_words};
+use server_parts::limits::supply_for;
+use server_parts::opening::{end_of_listener, find_rules, names_of, plan_of, print_port, stand_in};
+use server_parts::signals::forgets_programs;
+use server_parts::{
+    ProgramStarter, RulesPath, ServerFailure, ServerFault, SocketAcceptor, TcpserverFault,
+};
+use server_words::{Level, ServerWords, read_server_words};
+use server_yard::{Assumptions, Yard};
+use shared_site::{Caller, Callers, Site};
+use std::alloc::Global;
+use std::fs::{File, Files};
+use std::io::Write;
+use std::marker::Brand;
+use std::net::{Net, TcpStream};
+use std::process::{ChildStdin, OpenProcess, Processes};
+use std::rt::Env;
+use std::sync::ledger::Blank;
+use std::sync::{Mutex, Wait};
+use std::thread::Threads;
+use std::time::{Clock, Duration};
+use stream_tools::SearchPath;
+use stream_tools::started::{SystemGiven, texts_of};
+use tcp_service::{Log, Patience, Reserve, Service, serve};
+
+/// For so many seconds in succession a client whose connection is pumped may take nothing of what its program left for
+/// it.
+const IDLE: u64 = 60;
+
+/// And for so many in all.
+const ALL: u64 = 600;
+
+/// So many callers of the site make the events of all connections: one lets them in, and the other makes the rest.
+const CALLERS: u64 = 2;
+
+/// Runs `tcpserver` with these words, over the system's sockets, files and programs; `errors` takes the lines of its
+/// log. Without `-s` and `-S` connections are handed over or pumped as `voice` says. It returns once as many
+/// connections were served as it was to serve, and all of them are over.
+///
+/// # Errors
+/// Words with a fault run nothing, and their first fault is told. Words without one are blamed for nothing but want of
+/// memory. Then come the faults of the server, in the order of `ServerFault`. What the voice tells behind the line of a
+/// fault is left in `causes`, where there is memory for it.
+pub fn run_tcpserver<R, E>(
+    rt: &R,
+    errors: E,
+    words: &[Vec<u8>],
+    voice: Voice,
+    causes: &mut Vec<u8>,
+) -> Result<Finished, TcpserverFault>
+where
+    R: Env + Print + AllocGlobal + Files<File = File> + Processes + Threads + Wait + Clock + Sync,
+    R: Net<Stream = TcpStream>,
+    R::Dir: Send + Sync,
+    R::Listener: Send + Sync,
+    R::Started: OpenProcess<Stdin = ChildStdin> + Send,
+    <R::Started as OpenProcess>::Stdout: Send,
+    <R::Started as OpenProcess>::Stderr: Send,
+    E: Write + Send + Drop,
+    ensures answers { AnswersWords (plan_by_words (mode_by_name voice) (map text_in (texts_of words.now))) result }
+{
+    let alloc = rt.alloc();
+    let _held = [stand_in(rt), stand_in(rt), stand_in(rt)];
+    let texts = texts_of(alloc, words)?;
+    run_words::<SystemOf<'_, R, E>>(rt, errors, texts.as_slice(), voice, causes)
+}
+
+// What a server has but for its site and its socket.
+#[derive(Drop)]
+struct ServerParts<'a, P: System> {
+    plan: Plan,
+    search: SearchPath,
+    service: Service<'a>,
+    log: Mutex<Log<P::Errors>>,
+}
+
+// Runs the tool with these words. Here and below, what a function owns it lends to the calls that follow: they have the
+// many ways out.
+fn run_words<P: System + Send + Sync>(
+    rt: &P::Runtime,
+    errors: P::Errors,
+    words: &[String],
+    voice: Voice,
+    causes: &mut Vec<u8>,
+) -> Result<Finished, TcpserverFault>
+    ensures answers { AnswersWords (plan_by_words (mode_by_name voice) (texts words.now)) result }
+{
+    match read_server_words(rt.alloc(), words, voice.mode()) {
+        Ok(words) => {
+            let ended = match run_server::<P>(rt, errors, &words, voice) {
+                Ok(finished) => Ok(finished),
+                Err(failure) => {
+                    tell_failure(rt.alloc(), voice, &words, failure, causes);
+                    Err(TcpserverFault::Server(failure.fault))
+                }
+            };
+            drop(words);
+            ended
+        }
+        Err(fault) => {
+            drop(errors);
+            tell_words(rt.alloc(), voice, words, fault, causes);
+            Err(TcpserverFault::Words(fault))
+        }
+    }
+}
+
+// Runs the tool as its words ask for.
+fn run_server<P: System + Send + Sync>(
+    rt: &P::Runtime,
+    errors: P::Errors,
+    words: &ServerWords<'_>,
+    voice: Voice,
+) -> Result<Finished, ServerFailure> {
+    if forgets_programs(rt) {
+        return Err(ServerFailure::from(ServerFault::CannotWait));
+    }
+    let server = parts_of::<P>(rt, errors, words, voice)?;
+    open_and_run(rt, &server, words)
+}
+
+// What a server has by its words, but for its site and its socket.
+fn parts_of<'a, P: System>(
+    rt: &P::Runtime,
+    errors: P::Errors,
+    words: &'a ServerWords<'_>,
+    voice: Voice,
+) -> Result<ServerParts<'a, P>, ServerFailure>
+    ensures asked { IfOk result (λ server. AreAsked words.now server.plan server.service) }
+    ensures refused { IfErr result (λ failure. FailsNames words.now.hosts failure.fault) }
+{
+    let alloc = rt.alloc();
+    let log = log_of(alloc, errors, words, voice);
+    let plan = plan_of(alloc, &SystemGiven(rt), words)?;
+    let service = service_of(rt, words, &plan)?;
+    let search = SearchPath::own(alloc, rt)?;
+    Ok(ServerParts {
+        plan,
+        search,
+        service,
+        log: Mutex::new(log),
+    })
+}
+
+// The log of a server.
+fn log_of<W: Write>(alloc: Global, errors: W, words: &ServerWords<'_>, voice: Voice) -> Log<W>
+    ensures asked { IsAskedLog words.now voice result }
+{
+    let (level, limit) = (words.level(), words.limits().connections);
+    Log::new(alloc, errors, level, voice, limit)
+}
+
+// What a server does for all connections.
+fn service_of<'a, R: AllocGlobal + Files>(
+    rt: &R,
+    words: &'a ServerWords<'_>,
+    plan: &Plan,
+) -> Result<Service<'a>, ServerFailure>
+    ensures asked { IfOk result (IsAskedService words.now) }
+    ensures refused { IfErr result (λ failure. FailsNames words.now.hosts failure.fault) }
+{
+    let names = names_of(rt.alloc(), rt, words)?;
+    let (mode, limits) = (words.mode(), words.limits());
+    let supply = supply_for(mode, limits.connections, plan.inherited().len());
+    Ok(Service {
+        limits,
+        names,
+        mode,
+        patience: Patience {
+            idle: Duration::from_secs(IDLE),
+            all: Duration::from_secs(ALL),
+        },
+        recording: words.wrapping().records(),
+        input: words.wrapping().input(),
+        output: words.wrapping().output(),
+        supply,
+        reserve: Reserve::new(),
+    })
+}
+
+// Looks for the folder of the rules, opens the socket, and runs the server on them.
+fn open_and_run<P: System + Send + Sync>(
+    rt: &P::Runtime,
+    server: &ServerParts<'_, P>,
+    words: &ServerWords<'_>,
+) -> Result<Finished, ServerFailure>
+    requires asked { AreAsked words.now server.now.plan server.now.service }
+{
+    let alloc = rt.alloc();
+    let rules = find_rules(alloc, rt, words)?;
+    let name = match &rules {
+        Some((name, _)) => Some(name.copy(alloc)?),
+        None => None,
+    };
+    let at = RulesPath::new(rt, words.rules().unwrap_or_default(), name.as_ref());
+    let acceptor = open_socket::<P>(rt, &server.log, words)?;
+    if words.hosts().is_none() && words.level() == Level::All && at.name_someone(alloc) {
+        let _ = server.log.lock(rt).no_names();
+    }
+    let (places, parts) = (Blank::new(words.limits().connections), Blank::new(CALLERS));
+    run_site::<Brand, Brand, P>(rt, server, acceptor, rules, at, words, places, parts)
+}
+
+// The connections of a socket that listens where the words say, which a person is told. Its port is printed where the
+// words ask for that.
+fn open_socket<'a, P: System>(
+    rt: &'a P::Runtime,
+    log: &Mutex<Log<P::Errors>>,
+    words: &ServerWords<'_>,
+) -> Result<SocketAcceptor<'a, P::Runtime, P::Listener>, ServerFailure>
+    ensures asked { IfOk result (AcceptsAsAsked P.listens words.now) }
+    ensures refused { IfErr result (λ failure. (failure.fault ≡ CannotListen) ⊎ (failure.fault ≡ WriteFault)) }
+{
+    let listener = P::listen(rt, words.service().address(), words.service().port())?;
+    if words.prints_port() {
+        print_port(rt, &listener)?;
+    }
+    if let Some(end) = end_of_listener(&listener) {
+        let ip = end.0;
+        let _ = log.lock(rt).listening(ip, end.1);
+    }
+    let (mode, at_once) = (words.mode(), words.sends_at_once());
+    Ok(SocketAcceptor::new(rt, rt.alloc(), mode, listener, at_once))
+}
+
+// The server over a yard and a site of its own.
+fn run_site<'a, L: Assumptions + Send + Sync, N: Callers + Send + Sync, P: System + Send + Sync>(
+    rt: &'a P::Runtime,
+    server: &'a ServerParts<'_, P>,
+    acceptor: SocketAcceptor<'a, P::Runtime, P::Listener>,
+    rules: Option<(Name, WhenMissing)>,
+    at: RulesPath<'a, P::Runtime>,
+    words: &'a ServerWords<'_>,
+    places: Blank,
+    parts: Blank,
+) -> Result<Finished, ServerFailure>
+    requires places { (places.name ≡ L.name) × (places.parts ≡ L.parts)
+        × (places.parts ≡ words.now.limits.connections) }
+    requires met { L.met ≡ false }
+    requires parts { (parts.name ≡ N.name) × (parts.parts ≡ N.parts) × (parts.parts ≡ 2) }
+    requires callers { (N.all ≡ 2) × (N.before ≡ 0) }
+    requires asked { AreAsked words.now server.now.plan server.now.service }
+    requires rules { AreRulesOf words.now rules }
+    requires accepts { AcceptsAsAsked P.listens words.now acceptor }
+{
+    let yard = yard_of::<L>(rt.alloc(), rules, words, places)?;
+    let made = Site::<OnSystem<'a, P, L, N>>::new(rt.alloc(), parts, yard, CALLERS);
+    let (site, callers) = made.map_err(|_| ServerFault::OutOfMemory)?;
+    let starter = ProgramStarter::new(rt, words.mode(), &server.search, &server.service.reserve);
+    serve_on(rt, server, acceptor, site, callers, at, &starter, words)
+}
+
+// A yard of this rules file, with the limits of the words.
+fn yard_of<L: Assumptions>(
+    alloc: Global,
+    rules: Option<(Name, WhenMissing)>,
+    words: &ServerWords<'_>,
+    places: Blank,
+) -> Result<Yard<L, NoFolder>, ServerFault>
+    requires places { (places.name ≡ L.name) × (places.parts ≡ L.parts)
+        × (places.parts ≡ words.now.limits.connections) }
+    requires met { L.met ≡ false }
+    requires rules { AreRulesOf words.now rules }
+    ensures limits { IfOk result (λ yard.
+        AreAskedLimits words.now (yard_server yard).limit (yard_server yard).per_address) }
+    ensures rules { IfOk result (λ yard. yard_rules yard ≡ rules_of rules) }
+    ensures new { IfOk result (λ yard. (yard_books yard).count ≡ 0) }
+    ensures refused { IfErr result (λ fault. fault ≡ OutOfMemory) }
+{
+    let limits = words.limits();
+    let yard = Yard::<L, NoFolder>::with_address_limit(
+        alloc,
+        places,
+        NoFolder,
+        rules,
+        limits.connections,
+        limits.per_address,
+        Journal::counting(),
+    );
+    yard.map_err(|_| ServerFault::OutOfMemory)
+}
+
+// Serves the connections of a socket at a site, in the mode of the words.
+fn serve_on<'a, L: Assumptions + Send + Sync, N: Callers + Send + Sync, P: System + Send + Sync>(
+    rt: &'a P::Runtime,
+    server: &'a ServerParts<'_, P>,
+    acceptor: SocketAcceptor<'a, P::Runtime, P::Listener>,
+    site: Site<OnSystem<'a, P, L, N>>,
+    callers: Vec<Caller<N>>,
+    at: RulesPath<'a, P::Runtime>,
+    starter: &ProgramStarter<'a, P::Runtime>,
+    words: &'a ServerWords<'_>,
+) -> Result<Finished, ServerFailure>
+    requires met { L.met ≡ false }
+    requires callers { (N.all ≡ 2) × (N.parts ≡ 2) × (N.before ≡ 0)
+        × (vec_len callers ≡ 2) × (total_share callers.items ≡ 0) }
+    requires asked { AreAsked words.now server.now.plan server.now.service }
+    requires accepts { AcceptsAsAsked P.listens words.now acceptor }
+    requires starts { starts_in starter.now ≡ words.now.mode }
+{
+    let rules = FolderRules::<L, P::Runtime>::new(at);
+    let served = serve::<OnSystem<'a, P, L, N>, SocketAcceptor<'a, P::Runtime, P::Listener>>(
+        rt,
+        rt.alloc(),
+        acceptor,
+        site,
+        callers,
+        &rules,
+        starter,
+        &server.plan,
+        &server.service,
+        &server.log,
+    );
+    end_of(served)
+}
