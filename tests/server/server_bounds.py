@@ -3,6 +3,7 @@ documents say. Faults of accepting, their pauses and what they leave; reads of a
 programs at once, waits for a process, and signals.
 """
 import concurrent.futures
+import contextlib
 import os
 import resource
 import shutil
@@ -42,26 +43,51 @@ def faults_counted_anew(suite):
     for name, files in (("", None), (" with 64 descriptors", (64, 64))):
         run = failed_calls.Library(suite.folder).run_sparing("accept4", "EIO", (FAULTS + 1) * CLIENTS, FAULTS + 1)
         how = {"preexec_fn": lambda files=files: resource.setrlimit(resource.RLIMIT_NOFILE, files)} if files else {}
-        with suite.start(["-v", "-k", str(CLIENTS)], GREETS, env=failing(run), **how) as server:
+        # (with one connection at once, one thread accepts at a time)
+        with suite.start(["-v", "-c", "1", "-k", str(CLIENTS)], GREETS, env=failing(run), **how) as server:
             for _ in range(CLIENTS):
                 greeted(server).close()
-            suite.expect("the end after faults" + name, (server.end(), server.lines()[-1]), (0, log_forms.status(0, 40)))
+            suite.expect("the end after faults" + name, (server.end(), server.lines()[-1]), (0, log_forms.status(0, 1)))
             suite.expect("faults of accepting" + name, len(run.failed()), FAULTS * CLIENTS)
             suite.audit("faults" + name, server)
+
+
+def faults_after_a_crowd(suite):
+    """A hundred faults in succession end a server also while other threads of it wait for connections, as they do after a crowd. Who is served then is
+    served to the end."""
+    run = failed_calls.Library(suite.folder).run_while("accept4", "EIO")
+    with suite.start(["-v", "-c", "40"], GREETS, env=failing(run)) as server:
+        for client in [greeted(server) for _ in range(20)]:
+            client.close()
+        server.idle()
+        run.turn(True)
+        with contextlib.ExitStack() as clients:
+            last = greeted(server)
+            # (threads of the server wait for these, and fail only once they are back)
+            for _ in range(35):
+                if not run.failed():
+                    clients.enter_context(server.connect())
+                    time.sleep(0.02)
+            server_runs.wait_until("a hundred faults", lambda: len(run.failed()) >= 100, PATIENCE)
+            last.sendall(b"\n")
+            suite.expect("a client after the faults", server_runs.read_all(last), b"")
+            last.close()
+        suite.expect("the end by faults after a crowd", (server.end(), server.lines()[-1]), (111, "accept fault"))
 
 
 def want_of_room(suite, error):
     """A server that has a client, and for some time no room for another: whether it goes on and serves others then, how often it tried, and the seconds."""
     run = failed_calls.Library(suite.folder).run_while("accept4", error)
-    with suite.start(["-v", "-c", "4"], GREETS, env=failing(run)) as server, greeted(server):
+    with suite.start(["-v", "-c", "40"], GREETS, env=failing(run)) as server, greeted(server), contextlib.ExitStack() as clients:
         run.turn(True)
+        # (threads of the server may wait for some of these already)
+        for _ in range(10):
+            clients.enter_context(server.connect())
         began = time.monotonic()
-        # (it may wait for this one already)
-        with server.connect():
-            server_runs.wait_until("some tries", lambda: len(run.failed()) >= 3 or server.process.poll() is not None, PATIENCE)
-            time.sleep(1)
-            tries, seconds = len(run.failed()), time.monotonic() - began
-            run.turn(False)
+        server_runs.wait_until("some tries", lambda: len(run.failed()) >= 3 or server.process.poll() is not None, PATIENCE)
+        time.sleep(1)
+        tries, seconds = len(run.failed()), time.monotonic() - began
+        run.turn(False)
         goes_on = server.process.poll() is None
         if goes_on:
             greeted(server).close()
@@ -225,10 +251,10 @@ def no_signals(suite):
 
 
 CHECKS = [
-    faults_counted_anew, wants_of_room, room_while_some_are_alive, seventy_thousand_reads, unread_banners, many_variables, waits_for_a_process, no_signals,
+    faults_counted_anew, faults_after_a_crowd, wants_of_room, room_while_some_are_alive, seventy_thousand_reads, unread_banners, many_variables, waits_for_a_process, no_signals,
 ]
 COMMON = []
 HANDED = [
-    faults_counted_anew, wants_of_room, room_while_some_are_alive, unread_banners, many_variables, twelve_hundred, eleven_hundred_begin,
+    faults_counted_anew, faults_after_a_crowd, wants_of_room, room_while_some_are_alive, unread_banners, many_variables, twelve_hundred, eleven_hundred_begin,
     waits_for_a_process, no_signals,
 ]

@@ -158,6 +158,16 @@ def nothing_left(suite):
         suite.audit("six thousand connections", server, None if suite.original else 4)
 
 
+def rests(server):
+    """Whether a server uses hardly any time once it has done what it can, which may take some seconds on a busy machine."""
+    for _ in range(20):
+        used = server.processor_time()
+        time.sleep(0.5)
+        if server.processor_time() - used < 0.1:
+            return True
+    return False
+
+
 def few_descriptors(suite):
     """With few descriptors the server neither ends nor spins, and once connections end it serves on."""
     for number in range(16, 28):
@@ -167,11 +177,7 @@ def few_descriptors(suite):
 
         with suite.start(["-v"], ["sh", "-c", "echo hi; read a"], preexec_fn=limit) as server:
             clients = [server.connect() for _ in range(12)]
-            time.sleep(0.15)
-            used = server.processor_time()
-            time.sleep(0.5)
-            used = server.processor_time() - used
-            suite.holds("time used with %d descriptors" % number, used < 0.2, used)
+            suite.holds("no time is used with %d descriptors" % number, rests(server))
             suite.holds("the server runs with %d descriptors" % number, server.process.poll() is None, server.log()[-300:])
             for client in clients:
                 client.close()
@@ -198,26 +204,23 @@ def no_descriptors(suite):
         free = next(place for place in range(len(taken) + 1) if place not in taken)
         before = resource.prlimit(number, resource.RLIMIT_NOFILE)
         resource.prlimit(number, resource.RLIMIT_NOFILE, (free, before[1]))
-        # a server that waits in `accept` may keep a descriptor for the first one
-        first = server.connect()
+        # each thread that waits in `accept` has a descriptor for one of these
+        first = [server.connect() for _ in range(8)]
         time.sleep(0.3)
         late = server.connect()
         late.settimeout(1)
-        used = server.processor_time()
         try:
             suite.holds("a client without a descriptor waits", False, late.recv(3))
         except TimeoutError:
             suite.holds("a client without a descriptor waits", True)
-        used = server.processor_time() - used
-        suite.holds("no time is used while there is no descriptor", used < 0.1, used)
+        suite.holds("no time is used while there is no descriptor", rests(server))
         late.settimeout(server_runs.WAIT)
-        for client in clients[:3]:
+        for client in first + clients[:3]:
             client.close()
         # it is taken once a connection ends, though there may be too few descriptors for its program
         got = late.recv(3)
         suite.holds("a client that waited for a descriptor", got in (b"hi\n", b""), got)
         late.close()
-        first.close()
         resource.prlimit(number, resource.RLIMIT_NOFILE, before)
         wait_for_answer(server, "after the lack")
         clients[3].sendall(b"\n")

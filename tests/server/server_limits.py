@@ -3,6 +3,7 @@ ends.
 
 The programs count themselves, in a table that they share (`server_child.c`).
 """
+import contextlib
 import os
 import socket
 import threading
@@ -178,6 +179,28 @@ def refuses(server):
     return False
 
 
+def counts_in_a_crowd(suite):
+    """`-k N` lets in exactly N of a crowd that comes at once, and stops listening then, though programs of it still run."""
+    waits = ["sh", "-c", "echo hi; read a"]
+    for number in (1, 3, 17):
+        with suite.start(["-v", "-k", str(number)], waits) as server, contextlib.ExitStack() as clients:
+            came = [clients.enter_context(server.connect()) for _ in range(40)]
+            served = [client for client in came if greets(client)]
+            suite.expect("served of 40 by -k %d" % number, len(served), number)
+            suite.holds("nothing is listened to while %d programs run" % number, server.process.poll() is None and refuses(server))
+            for client in served:
+                client.sendall(b"\n")
+            suite.expect("the end after a crowd and -k %d" % number, (server.end(), server.live()), (0, 0))
+            suite.audit("a crowd and -k %d" % number, server)
+
+
+def greets(client):
+    try:
+        return client.recv(3) == b"hi\n"
+    except ConnectionResetError:
+        return False
+
+
 def counts_of_full_addresses(suite):
     """A connection that its address has no room for does not count for -k, and has no serial."""
     with suite.start(["-v", "-c", "4", "-m", "1", "-k", "2"], ["sh", "-c", "echo hi; read a"]) as server, server.connect() as first:
@@ -239,7 +262,7 @@ def many_at_once(suite):
 
 
 CHECKS = [
-    two_at_once, one_after_another, gate, counts, counts_of_full_addresses, full_before_the_address, places_come_back, many_connections,
+    two_at_once, one_after_another, gate, counts, counts_in_a_crowd, counts_of_full_addresses, full_before_the_address, places_come_back, many_connections,
     many_connections_of_all, many_at_once,
 ]
 COMMON = [one_after_another, gate, many_connections_of_all, many_at_once]

@@ -32,7 +32,7 @@ FailsRules fault = ⊥
 abbrev pub accepts_in : {R T : Type 0} → SocketAcceptor R T → Mode
 accepts_in acceptor = acceptor.mode
 
-abbrev pub accepts_from : {R T : Type 0} → SocketAcceptor R T → Option T
+abbrev pub accepts_from : {R T : Type 0} → SocketAcceptor R T → T
 accepts_from acceptor = acceptor.listener
 
 abbrev pub accepts_at_once : {R T : Type 0} → SocketAcceptor R T → Bool

@@ -4,15 +4,16 @@ ghost use Rattle.std.specs.Fn.{FnOnceReturnsAt};
 
 use crate::following::Followed;
 use child_jobs::Local;
+use libc::net::SHUT_RD;
 use server_words::Mode;
 use std::alloc::Global;
 use std::io;
 use std::io::{Error, ErrorKind, Read};
 use std::net::{OpenListener, Shutdown, SocketAddr, TcpStream};
-use std::os::fd::OwnedFd;
+use std::os::fd::{AsRawFd, OwnedFd};
 use std::sync::{Arc, Mutex, Wait};
 use std::time::Clock;
-use tcp_connections::{AcceptFault, Accepted, Acceptor, Shut};
+use tcp_connections::{AcceptError, AcceptFault, Accepted, Acceptor, Shut};
 
 /// The system's faults of a process, and of the whole system, that has too many open files.
 const TOO_MANY_FILES: i32 = 24;
@@ -88,17 +89,15 @@ impl<R: Wait> Shut for Holder<'_, R> {
     }
 }
 
-/// The connections that a listening socket accepts, until it is closed.
+/// The connections that a listening socket accepts.
 #[derive(Drop)]
 pub struct SocketAcceptor<'a, R, T> {
     rt: &'a R,
     alloc: Global,
     mode: Mode,
-    listener: Option<T>,
+    listener: T,
     // whether what is written to its connections is sent at once (TCP_NODELAY)
     sends_at_once: bool,
-    // the number of the error by which the system last gave no connection
-    error: Option<i32>,
 }
 
 impl<'a, R: Wait, T: OpenListener<Stream = TcpStream>> SocketAcceptor<'a, R, T> {
@@ -114,30 +113,22 @@ impl<'a, R: Wait, T: OpenListener<Stream = TcpStream>> SocketAcceptor<'a, R, T> 
         sends_at_once: bool,
     ) -> SocketAcceptor<'a, R, T>
         ensures mode { accepts_in result ≡ mode }
-        ensures from { accepts_from result ≡ Some listener }
+        ensures from { accepts_from result ≡ listener }
         ensures at_once { accepts_at_once result ≡ sends_at_once }
     {
         SocketAcceptor {
             rt,
             alloc,
             mode,
-            listener: Some(listener),
+            listener,
             sends_at_once,
-            error: None,
         }
     }
 
     // Waits for the next connection: its socket, and where its ends are, the server's first.
-    fn next(&mut self) -> Result<(SocketAddr, TcpStream, SocketAddr), AcceptFault> {
-        let listener = self.listener.as_ref().ok_or(AcceptFault::Other)?;
-        let made = listener.accept();
-        match made.and_then(|(stream, peer)| Ok((stream.local_addr()?, stream, peer))) {
-            Ok(made) => Ok(made),
-            Err(error) => {
-                self.error = error.raw_os_error();
-                Err(fault_of(&error))
-            }
-        }
+    fn next(&self) -> io::Result<(SocketAddr, TcpStream, SocketAddr)> {
+        let (stream, peer) = self.listener.accept()?;
+        Ok((stream.local_addr()?, stream, peer))
     }
 
     // Three holders of a connection's socket; none for want of memory.
@@ -157,44 +148,43 @@ impl<'a, R: Wait, T: OpenListener<Stream = TcpStream>> SocketAcceptor<'a, R, T> 
 
 impl<'a, R, T> Acceptor for SocketAcceptor<'a, R, T>
 where
-    R: Wait + Clock,
-    T: OpenListener<Stream = TcpStream> + Drop,
+    R: Wait + Clock + Sync,
+    T: OpenListener<Stream = TcpStream> + AsRawFd + Drop,
 {
     type Holder = Holder<'a, R>;
 
-    ghost failed_last = { λ _ _. true };
-
-    ghost last_error = { λ acceptor. acceptor.error };
-
-    fn accept(&mut self) -> Result<Accepted<Holder<'a, R>>, AcceptFault> {
-        let (local, stream, peer) = self.next()?;
+    fn accept(&self) -> Result<Option<Accepted<Holder<'a, R>>>, AcceptError> {
+        let (local, stream, peer) = match self.next() {
+            Ok(next) => next,
+            Err(error) => return Err(error_of(&error)),
+        };
         let (Some(local), Some(peer)) = (ipv4(local), ipv4(peer)) else {
-            return Err(AcceptFault::Other);
+            return Err(AcceptError {
+                fault: AcceptFault::Other,
+                number: None,
+            });
         };
         if self.sends_at_once {
             let _ = stream.set_nodelay(true);
         }
         let Some((reader, writer, shut)) = self.holders(stream) else {
-            return Err(AcceptFault::OutOfMemory);
+            return Ok(None);
         };
         let (ip, port) = peer;
         let (local_ip, local_port) = local;
-        Ok(Accepted {
+        Ok(Some(Accepted {
             reader,
             writer,
             shut,
             ip,
             port,
             local: Local::new(local_ip, local_port, None),
-        })
+        }))
     }
 
-    fn error(&self) -> Option<i32> {
-        self.error
-    }
-
-    fn close(&mut self) {
-        self.listener = None;
+    // (a server whose `shutdown` the system refuses ends only once each thread that waits has got a connection)
+    fn wake(&self) {
+        let _ = libc::net::shutdown(self.listener.as_raw_fd(), SHUT_RD);
     }
 }
 
@@ -206,11 +196,13 @@ fn ipv4(end: SocketAddr) -> Option<([u8; 4], u16)> {
     }
 }
 
-// What the system's fault is for a server that accepts.
-fn fault_of(error: &Error) -> AcceptFault {
-    match error.raw_os_error() {
+// What the system's error is for a server that accepts.
+fn error_of(error: &Error) -> AcceptError {
+    let number = error.raw_os_error();
+    let fault = match number {
         Some(TOO_MANY_FILES | TOO_MANY_FILES_AT_ALL | NO_BUFFERS) => AcceptFault::NoRoom,
         _ if error.kind() == ErrorKind::OutOfMemory => AcceptFault::NoRoom,
         _ => AcceptFault::Other,
-    }
+    };
+    AcceptError { fault, number }
 }

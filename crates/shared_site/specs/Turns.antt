@@ -1,5 +1,5 @@
 -- What a turn does to a yard, and when its event is allowed.
-use Rattle.std.specs.Prelude.{⊤, ◌≡◌, ◌<◌, ◌≤◌, ◌++◌, ◌∷◌, ℕ, Bool, true, List, [], Option, None, Some, Result, Ok, Err, IsTrue, IfNone, IfSome, is_some, length}
+use Rattle.std.specs.Prelude.{⊤, ◌≡◌, ◌++◌, ◌∷◌, ℕ, Bool, true, List, [], Option, None, Some, Result, Ok, Err, IsTrue, IfNone, IfSome, is_some}
 use Rattle.std.specs.Bool.{OnFalse, OnTrue}
 use Rattle.dir_calls.specs.Directory.{Directory}
 use Rattle.dir_calls.specs.declared.dir.Dir as dir
@@ -50,11 +50,6 @@ LeadsFound serial bytes old new = bytes ≡ standing_of old → LeadsOpened seri
 
 -- a yard with this ledger, this directory and these files, and what their traits tell of them
 module _ {L D F : Type 0} {p : assumptions.Ghosts L} {d : dir.Ghosts D F} {f : file.Ghosts F} where
-  -- no place is free, but one may become free
-  pub record IsFullForNow (y : Yard L D F p d f) : Type 0 where
-    pub full : (yard_server y).limit ≤ length (yard_server y).connections
-    pub not_all_retired : (yard_books y).report.retired < (yard_server y).limit
-
   -- a turn of a caller gave this answer between these states of a yard, as it may by the numbers of events before and
   -- after it
   abbrev pub Answers : {A : Type 0} → (answers : ℕ → ℕ → A → ℕ → Type 0) → (who : ℕ) → A

@@ -5,8 +5,8 @@
 //! error that changes nothing but the speaker. If the yard is a server's and had no event before, its events are a run
 //! (`Guarded`, `Site::close`): what turns tell, one after another. Only laws and tests make a `Receipt` of the evidence
 //! that a turn answers: see `whole_yard`, which audits receipts. A `Refusal`, and `AllRetired`, are made only of a yard
-//! that is so. Nothing is proved about the answer of `live`, and `Ok` of `room`. That threads get the lock and go on is
-//! tested (`test_sites`).
+//! that is so. Nothing is proved about the answer of `live`, or about `None` of `retired`. That threads get the lock and
+//! go on is tested (`test_sites`).
 #![tactic(auto)]
 
 pub mod caller;

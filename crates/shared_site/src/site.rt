@@ -1,9 +1,9 @@
 //! The site: a yard under one lock, for many threads.
-ghost use Rattle.std.specs.Prelude.{◌≡◌, ◌+◌, ◌<◌, ◌≤◌, ◌↔◌, true, List, IsOk, IsTrue, IfOk, IfErr, vec_len};
+ghost use Rattle.std.specs.Prelude.{◌≡◌, ◌+◌, ◌<◌, ◌≤◌, ◌↔◌, true, List, IsOk, IfOk, IfErr, vec_len};
 ghost use Rattle.server_events.specs.declared.event.Event.{Event};
 ghost use Rattle.server_yard.specs.Yards.{HasRun, IsRunOf, yard_books, yard_server};
 ghost use Rattle.shared_site.specs.Callers.{AreNew, CountsForIts, total_share};
-ghost use Rattle.shared_site.specs.Turns.{IsFullForNow, told_then};
+ghost use Rattle.shared_site.specs.Turns.{told_then};
 
 use crate::caller::{Caller, Callers};
 use crate::ground::{CallerOf, Ground, YardOf};
@@ -12,7 +12,7 @@ use server_yard::Assumptions;
 use std::alloc::{AllocError, Global};
 use std::marker::PhantomData;
 use std::sync::ledger::{Blank, Book, Share};
-use std::sync::{Condvar, Mutex, Wait};
+use std::sync::{Mutex, Wait};
 
 /// Evidence that all places of this ledger are retired, so that none will ever be free. Only a yard that is so makes
 /// it.
@@ -44,31 +44,19 @@ struct Guarded<G: Ground> {
 }
 
 impl<G: Ground> Guarded<G> {
-    // Runs a turn of a caller. It also answers whether those who wait for room have to be woken: there is room now, or
-    // all places are retired, and neither was so before. The journal's number before and after the turn says how many
-    // events it made.
-    fn turn<T: Turn<G>>(&mut self, caller: &mut CallerOf<G>, turn: T) -> (T::Answer, bool)
+    // Runs a turn of a caller. The journal's number before and after the turn says how many events it made.
+    fn turn<T: Turn<G>>(&mut self, caller: &mut CallerOf<G>, turn: T) -> T::Answer
         requires may { T.may turn }
-        ensures counted { CountsForIts (T.answers turn) result.0 caller.old caller.new }
+        ensures counted { CountsForIts (T.answers turn) result caller.old caller.new }
         // what turns tell, one after another, is a run
         ensures runs_on { G.is_servers ≡ true → (events : List Event)
-            → IsRunOf events self.old.yard → IsRunOf (told_then events (T.tells turn result.0)) self.new.yard }
-        ensures wakes { IsTrue result.1 ↔ (IsFullForNow self.old.yard × ¬ IsFullForNow self.new.yard) }
+            → IsRunOf events self.old.yard → IsRunOf (told_then events (T.tells turn result)) self.new.yard }
     {
-        let was_taken = self.is_taken();
         let before = self.yard.journal().events();
         let answer = turn.run(&mut self.yard, caller.number);
         let made = self.yard.journal().events() - before;
         self.events.add(&mut caller.share, made);
-        (answer, was_taken && !self.is_taken())
-    }
-
-    // Whether no place is free, but one may become free.
-    fn is_taken(&self) -> bool
-        ensures { IsTrue result ↔ IsFullForNow self.now.yard }
-    {
-        self.yard.live() >= self.yard.limit()
-            && self.yard.journal().report().retired < self.yard.limit()
+        answer
     }
 }
 
@@ -77,7 +65,6 @@ impl<G: Ground> Guarded<G> {
 #[derive(Drop)]
 pub struct Site<G: Ground> {
     guarded: Mutex<Guarded<G>>,
-    freed: Condvar,
     callers: u64,
     ghost all: { callers ≡ G.Callers.all },
     ghost some: { 0 < callers },
@@ -109,24 +96,19 @@ impl<G: Ground> Site<G> {
         };
         let site = Site {
             guarded: Mutex::new(Guarded { yard, events }),
-            freed: Condvar::new(),
             callers,
         };
         Ok((site, made))
     }
 
     /// Makes a turn for a caller. It waits for the lock, runs the turn on the yard with the caller's number, and lets
-    /// the lock go. If the turn made an event, the caller's share grows by it. If it made room, those who wait for room
-    /// are woken. Under the lock nobody waits for anything but what the turn itself waits for.
+    /// the lock go. If the turn made an event, the caller's share grows by it. Under the lock nobody waits for anything
+    /// but what the turn itself waits for.
     pub fn turn<R: Wait, T: Turn<G>>(&self, rt: &R, caller: &mut CallerOf<G>, turn: T) -> T::Answer
         requires may { T.may turn }
         ensures counted { CountsForIts (T.answers turn) result caller.old caller.new }
     {
-        let (answer, makes_room) = self.guarded.lock(rt).turn(caller, turn);
-        if makes_room {
-            self.freed.notify_all();
-        }
-        answer
+        self.guarded.lock(rt).turn(caller, turn)
     }
 
     /// How many connections are alive, retired ones too.
@@ -134,18 +116,13 @@ impl<G: Ground> Site<G> {
         self.guarded.lock(rt).yard.live()
     }
 
-    /// Waits until a place is free. The wait is no event.
-    ///
-    /// # Errors
-    /// All places are retired.
-    pub fn room<R: Wait>(&self, rt: &R) -> Result<(), AllRetired<G::Places>> {
-        let guarded = self
-            .freed
-            .wait_while(rt, self.guarded.lock(rt), |guarded| guarded.is_taken());
+    /// Evidence that all places are retired, if they are.
+    pub fn retired<R: Wait>(&self, rt: &R) -> Option<AllRetired<G::Places>> {
+        let guarded = self.guarded.lock(rt);
         if guarded.yard.journal().report().retired < guarded.yard.limit() {
-            return Ok(());
+            return None;
         }
-        Err(AllRetired::of::<G>(&guarded.yard))
+        Some(AllRetired::of::<G>(&guarded.yard))
     }
 
     /// The yard, once all callers are back. Its history has as many events as when the site was made, and those of all
@@ -166,7 +143,6 @@ impl<G: Ground> Site<G> {
         }
         let Site {
             guarded,
-            freed: _,
             callers: _,
         } = self;
         let Guarded { yard, mut events } = guarded.into_inner();

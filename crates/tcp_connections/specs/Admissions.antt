@@ -1,5 +1,5 @@
 -- How many connections a server let in, and when it ends by faults of accepting.
-use Rattle.std.specs.Prelude.{◌≡◌, ◌+◌, ◌-◌, ◌≤◌, ◌&&◌, ◌⊎◌, ℕ, Bool, IsTrue, true, false, nat_le, nat_lt, Option, None, Some, ⊤}
+use Rattle.std.specs.Prelude.{◌≡◌, ◌+◌, ◌-◌, ◌≤◌, ◌&&◌, ◌⊎◌, ℕ, Bool, true, false, nat_le, nat_lt, Option, None, Some, ⊤}
 use Rattle.tcp_connections.specs.declared.admission.AdmitOutcome.{AdmitOutcome}
 use Rattle.tcp_connections.specs.declared.admission.AdmitOutcome.TheVariants.{In, Refused, Spent}
 use Rattle.tcp_connections.specs.declared.admission.ServeEnd.{ServeEnd}
@@ -32,6 +32,6 @@ may_begin (Some memory) = nat_lt 0 memory.at_once
 abbrev pub suffices : Supply → Bool
 suffices supply = nat_le supply.to_begin supply.descriptors && may_begin supply.memory
 
--- there was too little for one connection, or at least the last hundred calls failed
-abbrev pub FailedToAccept : (suffices : Bool) → (failed_last : ℕ → Bool) → Type 0
-FailedToAccept suffices failed_last = (suffices ≡ false) ⊎ IsTrue (failed_last 100)
+-- there was too little for one connection, or the last hundred answers were errors, of which so many came in succession
+abbrev pub FailedToAccept : (suffices : Bool) → (errors : ℕ) → Type 0
+FailedToAccept suffices errors = (suffices ≡ false) ⊎ (errors ≡ 100)

@@ -1,6 +1,4 @@
 //! Where connections come from.
-ghost use Rattle.std.specs.Prelude.{◌≡◌, ◌+◌, ℕ, ℤ, Option, OnErr, Bool, IsTrue};
-
 use child_jobs::Local;
 use std::io::{Read, Write};
 use std::time::Duration;
@@ -12,12 +10,18 @@ pub enum AcceptFault {
     /// There was no descriptor or no memory for it. The end of another connection may help.
     #[error("too many open files")]
     NoRoom,
-    /// A connection came, and was closed for want of memory.
-    #[error("out of memory")]
-    OutOfMemory,
     /// Anything else.
     #[error("accept fault")]
     Other,
+}
+
+/// An error of accepting.
+#[derive(Clone, Copy, PartialEq, Eq)]
+pub struct AcceptError {
+    /// Why no connection was given.
+    pub fault: AcceptFault,
+    /// The system's number of the error (`errno`), if it has one.
+    pub number: Option<i32>,
 }
 
 /// What ends a connection both ways.
@@ -59,34 +63,18 @@ pub struct Accepted<S> {
     pub local: Local,
 }
 
-/// Where connections come from.
+/// Where connections come from, for many threads at once.
 pub trait Acceptor {
     /// One of those who hold the stream of a connection.
-    type Holder: Read + Write + Shut + Drop;
+    type Holder: Read + Write + Shut + Send + Drop;
 
-    /// At least the last so many calls of `accept` failed.
-    ghost failed_last: { Self → ℕ → Bool };
-
-    /// The system's number of the last error (`errno`), if it had one.
-    ghost last_error: { Self → Option ℤ };
-
-    /// Waits for the next connection.
+    /// Waits for the next connection. Each connection is given to one of the threads that wait. `None` if it found no
+    /// memory, and was closed.
     ///
     /// # Errors
     /// There is no connection; the call may be made again.
-    fn accept(&mut self) -> Result<Accepted<Self::Holder>, AcceptFault>
-        ensures once { OnErr result (IsTrue (failed_last self.new 1)) }
-        ensures again { OnErr result
-            ((n : ℕ) → IsTrue (failed_last self.old n) → IsTrue (failed_last self.new (n + 1))) }
-        ensures fewer { OnErr result
-            ((n : ℕ) → IsTrue (failed_last self.old n) → IsTrue (failed_last self.new n)) };
+    fn accept(&self) -> Result<Option<Accepted<Self::Holder>>, AcceptError>;
 
-    /// The system's number of the last error (`errno`), if it had one.
-    fn error(&self) -> Option<i32>
-        ensures number { result ≡ last_error self.now };
-
-    /// Stops listening: nobody comes any more, and the system turns away those who wait.
-    fn close(&mut self)
-        ensures failed { (n : ℕ) → IsTrue (failed_last self.old n) → IsTrue (failed_last self.new n) }
-        ensures number { last_error self.new ≡ last_error self.old };
+    /// Ends the waits of all threads, whose calls fail then, as do those that follow.
+    fn wake(&self);
 }

@@ -1,8 +1,6 @@
 //! Where connections are let in, and what serves them.
-ghost use Rattle.std.specs.Prelude.{◌≡◌, ◌+◌, ℕ, IfOk, IfErr, OnErr, Bool, false, IsTrue};
+ghost use Rattle.std.specs.Prelude.{◌≡◌, ℕ, IfOk, IfErr, Bool, false, IsTrue};
 ghost use Rattle.tcp_connections.specs.Admissions.{LetsIn, OnSpent};
-
-use crate::accepting::AcceptFault;
 
 /// How a server ended.
 #[derive(Clone, Copy, PartialEq, Eq, Debug)]
@@ -29,8 +27,11 @@ pub enum AdmitOutcome<T, E> {
     Spent,
 }
 
-/// Where connections come in.
+/// Who is let in of those who come.
 pub trait Admission {
+    /// A connection that came.
+    type Came: Send + Drop;
+
     /// A connection that was let in.
     type Work;
 
@@ -40,42 +41,21 @@ pub trait Admission {
     /// How many were let in.
     ghost let_in: { Self → ℕ };
 
-    /// At least the last so many calls of `next` failed.
-    ghost failed_last: { Self → ℕ → Bool };
-
     /// All places were seen retired.
     ghost all_retired: { Self → Bool };
 
     /// The last serial number, or the last number of an event, was seen given.
     ghost is_spent: { Self → Bool };
 
-    /// Waits until fewer connections are alive than may be. `false` if all places are retired, so that this never
-    /// comes.
-    fn wait_for_room(&mut self) -> bool
+    /// Lets a connection in. A refused one is closed.
+    fn admit(&mut self, came: Self::Came) -> AdmitOutcome<Self::Work, Self::Refusal>
+        ensures came { LetsIn result (let_in self.old) (let_in self.new) }
+        ensures spent { OnSpent result (IsTrue (is_spent self.new)) };
+
+    /// Whether a place is free, or may become free: not all are retired.
+    fn has_places(&mut self) -> bool
         ensures retired { result ≡ false → IsTrue (all_retired self.new) }
-        ensures nobody { let_in self.new ≡ let_in self.old }
-        ensures failed { (n : ℕ) → IsTrue (failed_last self.old n) → IsTrue (failed_last self.new n) };
-
-    /// Waits for the next connection, and lets it in. A refused connection is closed.
-    ///
-    /// # Errors
-    /// No connection came; the call may be made again.
-    fn next(&mut self) -> Result<AdmitOutcome<Self::Work, Self::Refusal>, AcceptFault>
-        ensures came { IfOk result (λ entry. LetsIn entry (let_in self.old) (let_in self.new)) }
-        ensures spent { IfOk result (λ entry. OnSpent entry (IsTrue (is_spent self.new))) }
-        ensures none { OnErr result (let_in self.new ≡ let_in self.old) }
-        ensures once { OnErr result (IsTrue (failed_last self.new 1)) }
-        ensures again { OnErr result
-            ((n : ℕ) → IsTrue (failed_last self.old n) → IsTrue (failed_last self.new (n + 1))) }
-        ensures fewer { OnErr result
-            ((n : ℕ) → IsTrue (failed_last self.old n) → IsTrue (failed_last self.new n)) };
-
-    /// Lets nobody in any more, and turns away those who wait.
-    fn close(&mut self)
-        ensures nobody { let_in self.new ≡ let_in self.old }
-        ensures failed { (n : ℕ) → IsTrue (failed_last self.old n) → IsTrue (failed_last self.new n) }
-        ensures retired { IsTrue (all_retired self.old) → IsTrue (all_retired self.new) }
-        ensures spent { IsTrue (is_spent self.old) → IsTrue (is_spent self.new) };
+        ensures nobody { let_in self.new ≡ let_in self.old };
 }
 
 /// Serves the connections that were let in. A connection is a value that each call takes, and gives on to the next.
@@ -96,6 +76,9 @@ pub trait Serving<T> {
 
     ghost of_over: { Self.Over → ℕ };
 
+    /// Whether a connection that is over was retired.
+    ghost retired: { Self.Over → Bool };
+
     /// Whether what clients send is passed on. Each worker has a second thread for that.
     fn passes_up(&self) -> bool;
 
@@ -114,4 +97,8 @@ pub trait Serving<T> {
     /// Serves a connection whose program runs to its end.
     fn finish(&self, alive: Self::Alive) -> Self::Over
         ensures over { of_over result ≡ of_alive alive };
+
+    /// Whether a connection that is over was retired: its place is never free again.
+    fn is_retired(&self, over: &Self::Over) -> bool
+        ensures { result ≡ retired over.now };
 }

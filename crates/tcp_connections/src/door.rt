@@ -1,10 +1,10 @@
-//! The door: the value under the lock of the socket.
+//! The door: the value under whose lock connections are let in.
 ghost use Rattle.std.specs.Option.{ForSome};
-ghost use Rattle.std.specs.Prelude.{◌≡◌, ◌≢◌, ◌<◌, None, Some, true, false, IfOk, IsTrue};
-ghost use Rattle.tcp_connections.specs.Admissions.{IsServed, OnSpent};
+ghost use Rattle.std.specs.Prelude.{◌≡◌, ◌≢◌, ◌+◌, ◌≤◌, None, Some, true, false, IsTrue, min};
+ghost use Rattle.tcp_connections.specs.Admissions.{IsServed};
 ghost use Rattle.tcp_connections.specs.declared.admission.ServeEnd.TheVariants.{AcceptFaults, Count, NoPlaces, Spent};
 
-use crate::accepting::AcceptFault;
+use crate::accepting::AcceptError;
 use crate::admission::{Admission, AdmitOutcome, ServeEnd};
 use std::time::Duration;
 
@@ -39,81 +39,68 @@ impl Pause {
     }
 }
 
-// The admission, with how many it let in. `None` once that can't be counted any more.
-#[derive(Drop)]
-struct Entrance<Q: Admission> {
-    admission: Q,
-    let_in: Option<u32>,
-    // how many of the last calls failed, up to a hundred
-    failed: u32,
-    ghost counted: { ForSome let_in (λ n. Q.let_in admission ≡ n) },
-    ghost in_succession: { 0 < failed → IsTrue (Q.failed_last admission failed) },
+/// The errors of accepting that came in succession, since the last connection or since the server began.
+#[derive(Clone, Copy)]
+pub struct Errors {
+    /// How many, up to a hundred.
+    pub count: u32,
+    // how many of them count as faults, and the next pause after one for want of room
+    faults: u32,
+    pause: Pause,
+    /// The system's number of the last error that came (`errno`), if it had one.
+    pub last: Option<i32>,
 }
 
-impl<Q: Admission> Entrance<Q> {
-    fn new(admission: Q) -> Entrance<Q>
-        requires nobody { Q.let_in admission ≡ 0 }
+impl Errors {
+    /// None came yet.
+    pub(crate) fn none() -> Errors
+        ensures none { result.count ≡ 0 }
+        ensures unknown { result.last ≡ None }
     {
-        Entrance {
-            admission,
-            let_in: Some(0),
-            failed: 0,
+        Errors {
+            count: 0,
+            faults: 0,
+            pause: Pause::first(),
+            last: None,
         }
     }
 
-    // Waits until fewer connections are alive than may be; `false` if that never comes.
-    fn wait_for_room(&mut self) -> bool
-        ensures retired { result ≡ false → IsTrue (Q.all_retired self.new.admission) }
+    // One more came.
+    fn add(&mut self, error: AcceptError)
+        ensures one_more { self.new.count ≡ min 100 (self.old.count + 1) }
+        ensures last { self.new.last ≡ error.number }
     {
-        self.admission.wait_for_room()
+        self.count = FAULTS.min(self.count.saturating_add(1));
+        self.last = error.number;
     }
 
-    // Waits for the next connection, and lets it in. A refused connection is closed.
-    fn next(&mut self) -> Result<AdmitOutcome<Q::Work, Q::Refusal>, AcceptFault>
-        ensures spent { IfOk result (λ entry. OnSpent entry (IsTrue (Q.is_spent self.new.admission))) }
+    // A connection came.
+    fn end(&mut self)
+        ensures none { self.new.count ≡ 0 }
+        ensures last { self.new.last ≡ self.old.last }
     {
-        let outcome = self.admission.next();
-        match &outcome {
-            Ok(AdmitOutcome::In(_)) => {
-                self.let_in = self.let_in.and_then(|count| count.checked_add(1));
-                self.failed = 0;
-            }
-            Ok(AdmitOutcome::Spent) => {
-                self.let_in = None;
-                self.failed = 0;
-            }
-            Ok(AdmitOutcome::Refused(_)) => self.failed = 0,
-            Err(_) if self.failed < FAULTS => self.failed += 1,
-            Err(_) => {}
-        }
-        outcome
-    }
-
-    // Lets nobody in any more.
-    fn close(&mut self)
-        ensures failed { IsTrue (Q.failed_last self.old.admission 100) → IsTrue (Q.failed_last self.new.admission 100) }
-        ensures retired { IsTrue (Q.all_retired self.old.admission) → IsTrue (Q.all_retired self.new.admission) }
-        ensures spent { IsTrue (Q.is_spent self.old.admission) → IsTrue (Q.is_spent self.new.admission) }
-    {
-        self.admission.close();
+        self.count = 0;
+        self.faults = 0;
+        self.pause = Pause::first();
     }
 }
 
-/// The door: whoever has its lock lets in one connection after another.
+/// The door: whoever has its lock lets in one connection that came.
 #[derive(Drop)]
 pub(crate) struct Door<Q: Admission> {
-    entrance: Entrance<Q>,
+    admission: Q,
+    // how many were let in; `None` once that can't be counted any more
+    let_in: Option<u32>,
     // how many connections are let in before the server ends
     count: Option<u32>,
     // how it ended, if not by that count
     end: Option<ServeEnd>,
-    // how many of the faults of accepting that came in succession count, and the next pause after one for want of room
-    faults: u32,
-    pause: Pause,
+    errors: Errors,
+    ghost counted: { ForSome let_in (λ n. Q.let_in admission ≡ n) },
     ghost otherwise: { end ≢ Some Count },
-    ghost by_faults: { end ≡ Some AcceptFaults → IsTrue (Q.failed_last entrance.admission 100) },
-    ghost by_places: { end ≡ Some NoPlaces → IsTrue (Q.all_retired entrance.admission) },
-    ghost by_numbers: { end ≡ Some Spent → IsTrue (Q.is_spent entrance.admission) },
+    ghost by_faults: { end ≡ Some AcceptFaults → errors.count ≡ 100 },
+    ghost by_places: { end ≡ Some NoPlaces → IsTrue (Q.all_retired admission) },
+    ghost by_numbers: { end ≡ Some Spent → IsTrue (Q.is_spent admission) },
 }
 
 impl<Q: Admission> Door<Q> {
@@ -122,11 +109,11 @@ impl<Q: Admission> Door<Q> {
         requires nobody { Q.let_in admission ≡ 0 }
     {
         Door {
-            entrance: Entrance::new(admission),
+            admission,
+            let_in: Some(0),
             count,
             end: None,
-            faults: 0,
-            pause: Pause::first(),
+            errors: Errors::none(),
         }
     }
 
@@ -134,105 +121,87 @@ impl<Q: Admission> Door<Q> {
     pub fn is_over(&self) -> bool
         ensures open { result ≡ false → self.now.end ≡ None }
     {
-        self.end.is_some() || self.is_served()
+        self.end.is_some() || (self.count.is_some() && self.count == self.let_in)
     }
 
-    // Whether as many were let in as `count` says.
-    fn is_served(&self) -> bool {
-        self.count.is_some() && self.count == self.entrance.let_in
-    }
-
-    /// Waits until fewer connections are alive than may be. `false` if that never comes; then the door is closed.
-    pub fn wait_for_room(&mut self) -> bool
+    /// Lets a connection in, if it is not refused. It ends the succession of errors.
+    pub fn admit(&mut self, came: Q::Came) -> Option<Q::Work>
         requires open { self.old.end ≡ None }
-        ensures open { result ≡ true → self.new.end ≡ None }
+        ensures anew { self.new.errors.count ≡ 0 }
     {
-        let is_room = self.entrance.wait_for_room();
-        if !is_room {
-            self.entrance.close();
+        self.errors.end();
+        match self.admission.admit(came) {
+            AdmitOutcome::In(work) => {
+                self.let_in = self.let_in.and_then(|count| count.checked_add(1));
+                Some(work)
+            }
+            AdmitOutcome::Refused(_) => None,
+            AdmitOutcome::Spent => {
+                self.let_in = None;
+                self.end = Some(ServeEnd::Spent);
+                None
+            }
+        }
+    }
+
+    /// No connection came, by this error.
+    pub fn note(&mut self, error: AcceptError)
+        ensures one_more { self.new.errors.count ≡ min 100 (self.old.errors.count + 1) }
+        ensures last { self.new.errors.last ≡ error.number }
+    {
+        self.errors.add(error);
+    }
+
+    /// The pause after an error for want of room.
+    pub fn next_pause(&mut self) -> Duration
+        ensures same { self.new.errors.count ≡ self.old.errors.count }
+    {
+        self.errors.pause.next()
+    }
+
+    /// Counts a fault of accepting: the last of a hundred ends the server.
+    pub fn count_fault(&mut self)
+        ensures same { self.new.errors.count ≡ self.old.errors.count }
+    {
+        if self.errors.faults < self.errors.count {
+            self.errors.faults += 1;
+        }
+        if !self.is_over() && self.errors.faults >= FAULTS && self.errors.count == FAULTS {
+            self.end = Some(ServeEnd::AcceptFaults);
+        }
+    }
+
+    /// Ends the server if all places are retired.
+    pub fn look_for_places(&mut self)
+        ensures same { self.new.errors.count ≡ self.old.errors.count }
+    {
+        if !self.is_over() && !self.admission.has_places() {
             self.end = Some(ServeEnd::NoPlaces);
         }
-        is_room
     }
 
-    /// Waits for the next connection, and lets it in if it is not refused. After the last one the door is closed.
-    ///
-    /// # Errors
-    /// No connection came.
-    pub fn next(&mut self) -> Result<Option<Q::Work>, AcceptFault>
-        requires open { self.old.end ≡ None }
-    {
-        match self.entrance.next()? {
-            AdmitOutcome::In(work) => {
-                self.forget_faults();
-                if self.is_served() {
-                    self.entrance.close();
-                }
-                Ok(Some(work))
-            }
-            AdmitOutcome::Refused(_) => {
-                self.forget_faults();
-                Ok(None)
-            }
-            AdmitOutcome::Spent => {
-                self.entrance.close();
-                self.end = Some(ServeEnd::Spent);
-                Ok(None)
-            }
-        }
-    }
-
-    // Ends the succession of faults.
-    fn forget_faults(&mut self) {
-        self.faults = 0;
-        self.pause = Pause::first();
-    }
-
-    /// The pause after a fault for want of room.
-    pub fn next_pause(&mut self) -> Duration {
-        self.pause.next()
-    }
-
-    /// Counts a fault of accepting: the last of a hundred closes the door.
-    pub fn count_fault(&mut self) {
-        if self.faults < self.entrance.failed {
-            self.faults += 1;
-        }
-        if self.faults >= FAULTS && self.entrance.failed == FAULTS {
-            self.end_by_faults();
-        }
-    }
-
-    // Closes the door, since a hundred calls have failed.
-    fn end_by_faults(&mut self)
-        requires failed { IsTrue (Q.failed_last self.old.entrance.admission 100) }
-    {
-        self.entrance.close();
-        self.end = Some(ServeEnd::AcceptFaults);
-    }
-
-    /// Closes the door, since there is no memory for the server or no thread that serves anybody.
+    /// Ends the server, since there is no memory for it or no thread that serves anybody.
     pub fn give_up(&mut self) {
         self.end = Some(ServeEnd::OutOfMemory);
-        self.entrance.close();
     }
 
-    /// How the server ended, and its admission.
-    pub fn into_end(self, count: Option<u32>) -> (ServeEnd, Q)
+    /// How the server ended, its admission, and the errors of accepting that came last.
+    pub fn into_end(self, count: Option<u32>) -> (ServeEnd, Q, Errors)
         ensures served { IsServed result.0 count 0 (Q.let_in result.1) }
-        ensures faults { result.0 ≡ AcceptFaults → IsTrue (Q.failed_last result.1 100) }
+        ensures faults { result.0 ≡ AcceptFaults → result.2.count ≡ 100 }
         ensures places { result.0 ≡ NoPlaces → IsTrue (Q.all_retired result.1) }
         ensures spent { result.0 ≡ Spent → IsTrue (Q.is_spent result.1) }
     {
-        let Door { entrance, end, .. } = self;
-        let Entrance {
+        let Door {
             admission,
             let_in,
+            end,
+            errors,
             ..
-        } = entrance;
+        } = self;
         if count.is_some() && count == let_in {
-            return (ServeEnd::Count, admission);
+            return (ServeEnd::Count, admission, errors);
         }
-        (end.unwrap_or(ServeEnd::OutOfMemory), admission)
+        (end.unwrap_or(ServeEnd::OutOfMemory), admission, errors)
     }
 }

@@ -1,7 +1,7 @@
 //! What is left of a connection whose program runs.
 use crate::admission::Serving;
 use crate::helpers::{AtWork, Helpers};
-use crate::supply::Means;
+use crate::means::Means;
 use std::sync::Wait;
 
 /// A connection whose program runs, with the second thread that passes on what its client sends. To drop it is to go on
@@ -25,10 +25,10 @@ impl<R: Wait, V: Serving<T>, T> Drop for GoingOn<'_, R, V, T> {
             alive,
             second,
         } = self;
-        let _over = server.finish(alive);
+        let over = server.finish(alive);
         if let Some(second) = second {
             seconds.give_back(rt, second.wait(rt));
         }
-        means.ended(rt);
+        means.ended(rt, server.is_retired(&over));
     }
 }

@@ -1,5 +1,5 @@
-//! TCP connections, without rules and logs: where they come from, the names of their two ends, the workers that let
-//! them in and begin them, the keepers that go on with them, the start of a child, and the wait for its end.
+//! TCP connections, without rules and logs: where they come from, the names of their two ends, the workers that accept
+//! and begin them, the keepers that go on with them, the start of a child, and the wait for its end.
 //!
 //! The server uses `serve_through`: if it ends by its count, it let in exactly that many. It alone starts threads. A
 //! connection is a value that each call of `Serving` passes on, or answers as over. Dropping a `GoingOn` ends the
@@ -11,11 +11,11 @@
 
 pub mod accepting;
 pub mod admission;
-mod crew;
-mod door;
+pub mod door;
 mod going_on;
 mod helpers;
 mod mailbox;
+mod means;
 pub mod names;
 pub mod rounds;
 pub mod starting;
@@ -23,8 +23,9 @@ pub mod supply;
 mod threads;
 pub mod workers;
 
-pub use accepting::{AcceptFault, Accepted, Acceptor, Follow, Patience, Shut};
+pub use accepting::{AcceptError, AcceptFault, Accepted, Acceptor, Follow, Patience, Shut};
 pub use admission::{Admission, AdmitOutcome, ServeEnd, Serving};
+pub use door::Errors;
 pub use names::HostNames;
 pub use rounds::wait_in_rounds;
 pub use starting::{ConnectionLauncher, Notes, Process, SignalNote, Starter};

@@ -4,18 +4,18 @@ ghost use Rattle.std.specs.Thread.{IsSend, IsSync};
 ghost use Rattle.tcp_connections.specs.Admissions.{FailedToAccept, IsServed, suffices};
 ghost use Rattle.tcp_connections.specs.declared.admission.ServeEnd.TheVariants.{AcceptFaults, NoPlaces, Spent};
 
-use crate::accepting::AcceptFault;
+use crate::accepting::{AcceptError, AcceptFault, Accepted, Acceptor};
 use crate::admission::{Admission, ServeEnd, Serving};
-use crate::crew::Crew;
-use crate::door::{Door, Pause};
+use crate::door::{Door, Errors, Pause};
 use crate::going_on::GoingOn;
 use crate::helpers::{AtWork, Helpers, Idle};
 use crate::mailbox::Mailbox;
-use crate::supply::{Means, Reserve, Supply};
+use crate::means::{Means, Next};
+use crate::supply::{Reserve, Supply};
 use crate::threads::{connection_thread, has_processes, start_reserve};
 use std::alloc::Global;
 use std::sync::atomic::{AtomicUsize, Ordering};
-use std::sync::{Arc, Mutex, Wait};
+use std::sync::{Arc, Mutex, RwLock, Wait};
 use std::thread;
 use std::thread::{Scope, Threads};
 use std::time::Clock;
@@ -33,46 +33,49 @@ const MORE: usize = 8 * 1024;
 /// What a thread takes of address space, in bytes: its stack, and what guards it.
 const THREAD: usize = 192 * 1024;
 
-/// Lets connections in until `count` were let in or no more can be. Then it closes `admission`, waits until all that
-/// were let in are over, and gives it back. At most `most` workers let them in, each of which serves a connection until
-/// its program runs. Then a keeper goes on with it, or the worker itself if there is no keeper. A second thread passes
-/// on what the client sends, if `server` does that. This thread makes one more worker whenever none waits at the door.
+/// Lets connections of `acceptor` in until `count` were let in or no more can be. Then it drops the acceptor, waits
+/// until all that were let in are over, and gives `admission` back with the errors of accepting that came last. At most
+/// `most` connections are alive at once. Each worker accepts one, lets it in, and serves it until its program runs.
+/// Then the worker or a keeper goes on with it. A second thread passes on what the client sends, if `server` does that.
+/// This thread makes one more worker whenever none waits for a connection.
 ///
-/// The count begins at 0, since nobody was let in by `admission` before. By faults of accepting it ends only if the last
-/// hundred calls of `admission` failed, or if `supply` doesn't suffice for one connection. For want of places it ends
-/// only if all were seen retired, and for want of numbers only if the last one was seen given.
-pub fn serve_through<R, V, Q>(
+/// The count begins at 0, since nobody was let in by `admission` before. By faults of accepting it ends only if the
+/// last hundred answers of the acceptor were errors, or if `supply` doesn't suffice for one connection. For want of
+/// places it ends only if all were seen retired, and for want of numbers only if the last one was seen given.
+pub fn serve_through<R, V, A, Q>(
     rt: &R,
     alloc: Global,
+    acceptor: A,
     admission: Q,
     server: &V,
-    most: usize,
+    most: u64,
     count: Option<u32>,
     supply: Supply,
     reserve: &Reserve,
-) -> (ServeEnd, Q)
+) -> (ServeEnd, Q, Errors)
 where
     R: Threads + Wait + Clock + Sync,
     V: Serving<Q::Work> + Sync,
-    Q: Admission + Send + Drop,
+    A: Acceptor + Send + Sync + Drop,
+    Q: Admission<Came = Option<Accepted<A::Holder>>> + Send + Drop,
     requires nobody { Q.let_in admission ≡ 0 }
     ensures served { IsServed result.0 count 0 (Q.let_in result.1) }
-    ensures faults { result.0 ≡ AcceptFaults → FailedToAccept (suffices supply) (Q.failed_last result.1) }
+    ensures faults { result.0 ≡ AcceptFaults → FailedToAccept (suffices supply) result.2.count }
     ensures places { result.0 ≡ NoPlaces → IsTrue (Q.all_retired result.1) }
     ensures spent { result.0 ≡ Spent → IsTrue (Q.is_spent result.1) }
 {
     if !supply.suffices() {
-        let mut admission = admission;
-        admission.close();
-        return (ServeEnd::AcceptFaults, admission);
+        drop(acceptor);
+        return (ServeEnd::AcceptFaults, admission, Errors::none());
     }
-    let (means, seconds) = (Means::new(supply), Helpers::new(alloc));
+    let (means, seconds) = (Means::new(supply, most, count), Helpers::new(alloc));
     let workers = Workers {
         rt,
         alloc,
         server,
+        acceptor: RwLock::new(Some(acceptor)),
         door: Mutex::new(Door::new(admission, count)),
-        crew: Crew::new(most),
+        scarce: Mutex::new(()),
         arrived: Mailbox::new(),
         wanted: Mailbox::new(),
         seconds: &seconds,
@@ -83,19 +86,28 @@ where
         reserve,
     };
     workers.run();
-    let Workers { door, keepers, .. } = workers;
+    let Workers {
+        acceptor,
+        door,
+        keepers,
+        ..
+    } = workers;
+    drop(acceptor);
     keepers.discard();
     door.into_inner().into_end(count)
 }
 
 /// What the workers share.
 #[derive(Drop)]
-struct Workers<'a, R: Wait, V: Serving<Q::Work>, Q: Admission> {
+struct Workers<'a, R: Wait, V: Serving<Q::Work>, A: Acceptor, Q: Admission> {
     rt: &'a R,
     alloc: Global,
     server: &'a V,
+    // none once nobody is let in any more
+    acceptor: RwLock<Option<A>>,
     door: Mutex<Door<Q>>,
-    crew: Crew,
+    // whoever has it waits until there may be descriptors or memory for a connection again
+    scarce: Mutex<()>,
     // whether the worker that was made is there, with its second thread if it needs one; and then, whether it stays
     arrived: Mailbox<bool>,
     wanted: Mailbox<bool>,
@@ -109,11 +121,12 @@ struct Workers<'a, R: Wait, V: Serving<Q::Work>, Q: Admission> {
     reserve: &'a Reserve,
 }
 
-impl<'a, R, V, Q> Workers<'a, R, V, Q>
+impl<'a, R, V, A, Q> Workers<'a, R, V, A, Q>
 where
     R: Threads + Wait + Clock + Sync,
     V: Serving<Q::Work>,
-    Q: Admission,
+    A: Acceptor + Drop,
+    Q: Admission<Came = Option<Accepted<A::Holder>>>,
 {
     // Whether memory is limited.
     fn is_limited(&self) -> bool {
@@ -128,50 +141,109 @@ where
     // Ends the server, since there is no memory for it or no thread that serves anybody.
     fn give_up(&self) {
         self.door.lock(self.rt).give_up();
+        self.end();
     }
 
-    // Waits for the door, and lets the next connection in. `None` once no more come.
-    fn next_connection(&self) -> Option<Q::Work> {
-        let mut door = self.door.lock(self.rt);
-        let next = self.lead(&mut door);
-        if door.is_over() {
-            self.crew.end(self.rt);
+    // Nobody is let in any more: all workers end that wait for a connection, and the acceptor is dropped.
+    fn end(&self) {
+        self.means.end(self.rt);
+        if let Some(acceptor) = &*self.acceptor.read(self.rt) {
+            acceptor.wake();
         }
-        drop(door);
-        self.crew.leave_door(self.rt);
-        next
+        let acceptor = self.acceptor.write(self.rt).take();
+        drop(acceptor);
     }
 
-    // Lets the next connection in. `None` once no more come.
-    fn lead(&self, door: &mut Door<Q>) -> Option<Q::Work> {
+    // Ends the server if it has come to its end.
+    fn end_if_over(&self) {
+        let is_over = self.door.lock(self.rt).is_over();
+        if is_over {
+            self.end();
+        }
+    }
+
+    // Waits for the next connection, and lets it in. `None` once no more come.
+    fn next_connection(&self) -> Option<Q::Work> {
         for _ in self.rt.forever() {
-            if door.is_over() || !door.wait_for_room() {
+            match self.means.take(self.rt) {
+                Next::Accept => {}
+                Next::NoPlaces => {
+                    self.door.lock(self.rt).look_for_places();
+                    self.end();
+                    break;
+                }
+                Next::End => break,
+            }
+            if let Some(work) = self.accept() {
+                return Some(work);
+            }
+        }
+        None
+    }
+
+    // Accepts a connection, and lets it in. `None` if none came, or it was refused.
+    fn accept(&self) -> Option<Q::Work> {
+        let answer = match &*self.acceptor.read(self.rt) {
+            Some(acceptor) => acceptor.accept(),
+            None => {
+                self.means.give_back(self.rt);
                 return None;
             }
-            self.means.take(self.rt);
-            match door.next() {
-                Ok(Some(work)) => return Some(work),
-                Ok(None) => self.means.give_back(self.rt),
-                Err(fault) => {
-                    self.means.give_back(self.rt);
-                    self.pause(door, fault);
-                }
+        };
+        match answer {
+            Ok(came) => self.admit(came),
+            Err(error) => {
+                self.means.give_back(self.rt);
+                self.pause(error);
+                None
             }
         }
-        unreachable!()
     }
 
-    // Counts a fault of accepting. After one for want of descriptors or memory it waits for a pause, or until a
-    // connection is over. If a connection was alive, the fault is none of the hundred.
-    fn pause(&self, door: &mut Door<Q>, fault: AcceptFault) {
-        if fault == AcceptFault::NoRoom {
-            let pause = door.next_pause();
-            if self.means.wait_for_one(self.rt, pause) {
-                return;
-            }
+    // Lets a connection in that came. `None` if it was refused, or nobody is let in any more.
+    fn admit(&self, came: Q::Came) -> Option<Q::Work> {
+        let mut door = self.door.lock(self.rt);
+        if door.is_over() {
+            drop(door);
+            drop(came);
+            self.means.give_back(self.rt);
+            return None;
+        }
+        let work = door.admit(came);
+        let is_over = door.is_over();
+        drop(door);
+        match &work {
+            Some(_) => self.means.came(self.rt),
+            None => self.means.give_back(self.rt),
+        }
+        if is_over {
+            self.end();
+        }
+        work
+    }
+
+    // Counts an error of accepting. After one for want of descriptors or memory it waits first. If a connection was
+    // served then, the error is none of the hundred.
+    fn pause(&self, error: AcceptError) {
+        self.door.lock(self.rt).note(error);
+        if error.fault == AcceptFault::NoRoom && self.wait_while_scarce() {
+            return;
+        }
+        self.door.lock(self.rt).count_fault();
+        self.end_if_over();
+    }
+
+    // Waits for a pause, or until there may be descriptors and memory again. Whether a connection was served. Workers
+    // wait one after another, so that all together try no more often than one would.
+    fn wait_while_scarce(&self) -> bool {
+        let turn = self.scarce.lock(self.rt);
+        let pause = self.door.lock(self.rt).next_pause();
+        let was_any_served = self.means.wait_for_change(self.rt, pause);
+        if !was_any_served {
             thread::sleep(self.rt, pause);
         }
-        door.count_fault();
+        drop(turn);
+        was_any_served
     }
 
     // Passes on what each client sends, one after another, until no more come.
@@ -193,16 +265,16 @@ where
                 || has_processes(self.rt, beginning.clamp(1, PROCESSES)))
     }
 
-    // Whether there is memory for the threads of one more worker too, if it is low. The C library keeps what threads took
-    // that are over, and a program would lack it.
+    // Whether there is memory for the threads of one more worker too, if it is low. The C library keeps what threads
+    // took that are over, and a program would lack it.
     fn has_stacks(&self, workers: usize) -> bool {
         let threads = if self.server.passes_up() { 2 } else { 1 };
         self.supply.has_reserve() || self.has_memory(workers, threads * THREAD)
     }
 
     // Whether there is memory for the connections of this many workers and for this many bytes more, if it is limited.
-    // Each look asks for more than the last one that succeeded. The C library would serve a smaller request from what it
-    // keeps for this thread alone.
+    // Each look asks for more than the last one that succeeded. The C library would serve a smaller request from what
+    // it keeps for this thread alone.
     fn has_memory(&self, workers: usize, beside: usize) -> bool {
         let Some(memory) = self.supply.memory else {
             return true;
@@ -230,11 +302,12 @@ where
     }
 }
 
-impl<'a, R, V, Q> Workers<'a, R, V, Q>
+impl<'a, R, V, A, Q> Workers<'a, R, V, A, Q>
 where
     R: Threads + Wait + Clock + Sync,
     V: Serving<Q::Work> + Sync,
-    Q: Admission + Send + Drop,
+    A: Acceptor + Send + Sync + Drop,
+    Q: Admission<Came = Option<Accepted<A::Holder>>> + Send + Drop,
 {
     // Lets connections in until the server comes to an end, and waits until all that were let in are over.
     fn run(&self) {
@@ -243,13 +316,15 @@ where
             thread::scope_env(),
             workers.rt,
             move |scope|
-                requires { IsSync R.row × IsSync V.row × IsSend Q.row × IsSend V.Upward.row × IsSend V.Alive.row }
+                requires { IsSync R.row × IsSync V.row × IsSend Q.row × IsSend V.Upward.row × IsSend V.Alive.row
+                    × IsSend A.row × IsSync A.row }
             {
                 if !workers.supply.has_reserve()
                     || !start_reserve(scope, workers.rt, workers.reserve)
                 {
                     workers.reserve.give_back(workers.rt);
                 }
+                workers.end_if_over();
                 workers.make_workers(scope);
                 workers.reserve.give_back(workers.rt);
                 workers.seconds.end(workers.rt);
@@ -263,7 +338,7 @@ where
     fn make_workers<'s, 'e>(&'s self, scope: &'s Scope<'s, &'e ()>) {
         let (mut pause, mut left, mut is_made) = (Pause::first(), TRIES, false);
         for _ in self.rt.forever() {
-            if !self.crew.wait_for_want(self.rt) {
+            if !self.means.wait_for_want(self.rt) {
                 return;
             }
             let beginning = self.means.hold_up(self.rt);
@@ -279,13 +354,14 @@ where
                 self.give_up();
                 return;
             }
-            self.crew.pause(self.rt, pause.next());
+            self.means.pause(self.rt, pause.next());
         }
     }
 
     // Makes a worker, if there is a thread for it and what its connection would take while this many others begin.
     fn make_worker<'s, 'e>(&'s self, scope: &'s Scope<'s, &'e ()>, beginning: u64) -> bool {
-        let workers = self.crew.count(self.rt).saturating_add(1);
+        let workers = usize::try_from(self.means.workers(self.rt)).unwrap_or(usize::MAX);
+        let workers = workers.saturating_add(1);
         if !self.has_stacks(workers)
             || !self.start_worker(scope)
             || self.arrived.take(self.rt) != Some(true)
@@ -294,7 +370,7 @@ where
         }
         let stays = self.has_supplies(workers, beginning);
         if stays {
-            self.crew.add(self.rt);
+            self.means.add(self.rt);
         }
         self.wanted.hand(self.rt, stays);
         stays
@@ -307,7 +383,8 @@ where
             .spawn_scoped(
                 scope,
                 move ||
-                    requires { IsSync R.row × IsSync V.row × IsSend Q.row × IsSend V.Upward.row × IsSend V.Alive.row }
+                    requires { IsSync R.row × IsSync V.row × IsSend Q.row × IsSend V.Upward.row × IsSend V.Alive.row
+                        × IsSend A.row × IsSync A.row }
                 { workers.come_to_work(scope) },
             )
             .is_ok()
@@ -335,7 +412,8 @@ where
         let started = connection_thread().spawn_scoped(
             scope,
             move ||
-                requires { IsSync R.row × IsSync V.row × IsSend Q.row × IsSend V.Upward.row × IsSend V.Alive.row }
+                requires { IsSync R.row × IsSync V.row × IsSend Q.row × IsSend V.Upward.row × IsSend V.Alive.row
+                    × IsSend A.row × IsSync A.row }
             {
                 workers.come_up();
                 his.finish(workers.rt);
@@ -355,18 +433,18 @@ where
             };
             self.serve(scope, work, &mut second);
             if second.is_none() && self.server.passes_up() {
-                self.crew.remove(self.rt);
+                self.means.remove(self.rt);
                 return;
             }
-            self.crew.come_back(self.rt);
+            self.means.come_back(self.rt);
         }
         if let Some(second) = second {
             second.end(self.rt);
         }
     }
 
-    // Serves a connection up to the start of its program. A keeper goes on with it, or this worker if there is no
-    // keeper. Afterwards the worker has a second thread for the next connection, if the system has one.
+    // Serves a connection up to the start of its program, and sees that somebody goes on with it. Afterwards the worker
+    // has a second thread for the next connection, if the system has one.
     fn serve<'s, 'e>(
         &'s self,
         scope: &'s Scope<'s, &'e ()>,
@@ -375,8 +453,8 @@ where
     ) {
         let (upward, alive) = match self.server.begin(work) {
             Ok(begun) => begun,
-            Err(_over) => {
-                self.means.give_back(self.rt);
+            Err(over) => {
+                self.means.failed(self.rt, self.server.is_retired(&over));
                 return;
             }
         };
@@ -393,28 +471,38 @@ where
             alive,
             second: at_work,
         };
-        match self.keeper(scope) {
-            Some(keeper) => keeper.give(self.rt, going_on),
-            None => drop(going_on),
-        }
+        self.go_on(scope, going_on);
         if second.is_none() {
             *second = self.second(scope);
         }
     }
 
-    // An idle keeper, or a new one. None if memory is limited, threads were scarce, or the system has no more.
+    // Goes on with a connection: this worker if it may stay, or else a keeper. If memory or threads are scarce, keepers
+    // end, and each worker goes on itself.
+    fn go_on<'s, 'e>(&'s self, scope: &'s Scope<'s, &'e ()>, going_on: GoingOn<'a, R, V, Q::Work>) {
+        if !self.has_plenty() {
+            self.keepers.end(self.rt);
+            drop(going_on);
+        } else if self.means.stay(self.rt) {
+            drop(going_on);
+            self.means.stop_staying(self.rt);
+        } else {
+            match self.keeper(scope) {
+                Some(keeper) => keeper.give(self.rt, going_on),
+                None => drop(going_on),
+            }
+        }
+    }
+
+    // An idle keeper, or a new one. None if the system has no more.
     fn keeper<'s, 'e>(
         &'s self,
         scope: &'s Scope<'s, &'e ()>,
     ) -> Option<Idle<GoingOn<'a, R, V, Q::Work>>> {
-        if !self.has_plenty() {
-            self.keepers.end(self.rt);
-            return None;
+        match self.keepers.take(self.rt) {
+            Some(keeper) => Some(keeper),
+            None => self.start_keeper(scope),
         }
-        if let Some(keeper) = self.keepers.take(self.rt) {
-            return Some(keeper);
-        }
-        self.start_keeper(scope)
     }
 
     // An idle second thread, or a new one. None if what clients send is not passed on, or the system has no more.
@@ -439,7 +527,8 @@ where
         let started = connection_thread().spawn_scoped(
             scope,
             move ||
-                requires { IsSync R.row × IsSync V.row × IsSend Q.row × IsSend V.Upward.row × IsSend V.Alive.row }
+                requires { IsSync R.row × IsSync V.row × IsSend Q.row × IsSend V.Upward.row × IsSend V.Alive.row
+                    × IsSend A.row × IsSync A.row }
             { workers.keep_in_turn(&his) },
         );
         started.ok()?;

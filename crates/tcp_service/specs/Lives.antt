@@ -1,5 +1,5 @@
 -- How the life of a connection begins, and what was told last of it.
-use Rattle.std.specs.Prelude.{◌≡◌, ◌⊎◌, ◌-◌, ◌^◌, ℕ, Bool, true, Option, Some, ⊤, option_and_then}
+use Rattle.std.specs.Prelude.{◌≡◌, ◌⊎◌, ◌-◌, ◌^◌, ℕ, Bool, true, false, Option, Some, ⊤, option_and_then}
 use Rattle.child_jobs.specs.Plans.{PlanText}
 use Rattle.child_jobs.specs.Programs.{ProgramText}
 use Rattle.child_jobs.specs.Runs.{IsSameChild}
@@ -31,6 +31,11 @@ AdmitsOwn outcome client = ⊤
 -- the last that was asked of the site is the end of the connection with a serial: that it goes, or is retired
 abbrev pub IsEndOf : Option Event → (serial : ℕ) → Type 0
 IsEndOf event serial = (option_and_then leaver event ≡ Some serial) ⊎ (event ≡ Some (Retired serial))
+
+-- the last that was asked of the site is that a connection is retired
+abbrev pub retires : Option Event → Bool
+retires (Some (Retired n)) = true
+retires other = false
 
 -- the end of a child was told for the connection with a serial: how it ended, by how the rounds of waiting for it went,
 -- or that all rounds failed

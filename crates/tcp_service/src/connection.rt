@@ -36,6 +36,8 @@ where
 
     ghost of_over = { λ over. over.serial };
 
+    ghost retired = { λ over. over.is_retired };
+
     fn passes_up(&self) -> bool {
         self.service.mode == Mode::Pumped
     }
@@ -50,5 +52,9 @@ where
 
     fn finish(&self, alive: Alive<'b, H>) -> Over {
         alive.finish()
+    }
+
+    fn is_retired(&self, over: &Over) -> bool {
+        over.is_retired
     }
 }

@@ -1,4 +1,4 @@
-//! How a connection is let in: accepted, named, and counted.
+//! How a connection that was accepted is let in: named and counted.
 ghost use Rattle.std.specs.Prelude.{◌≡◌, ◌-◌, ◌^◌, IsTrue, is_some};
 ghost use Rattle.server_yard.specs.declared.register.AdmitFault.TheVariants.{Spent};
 ghost use Rattle.shared_site.specs.Callers.{caller_share};
@@ -20,7 +20,7 @@ use shared_site::turns::Left;
 use shared_site::{AllRetired, CallerOf, Made, Refusal};
 use std::alloc::{AllocError, Global};
 use std::snapshot::Snapshot;
-use tcp_connections::{AcceptFault, Accepted, Acceptor, Admission, AdmitOutcome, HostNames};
+use tcp_connections::{Accepted, Admission, AdmitOutcome, HostNames};
 
 /// Why a connection was refused.
 #[derive(Drop)]
@@ -81,48 +81,46 @@ type Counted<G> = AdmitOutcome<AdmittedBy<G>, Refusal>;
 /// Lets the connections of an acceptor in, by a caller of a site that makes no other events: its share is how many were
 /// let in.
 #[derive(Drop)]
-pub(crate) struct Entrance<'a, H: Host, A> {
+pub(crate) struct Entrance<'a, H: Host> {
     pub server: &'a Server<'a, H>,
-    pub acceptor: A,
     pub admitter: CallerOf<H>,
     pub seen: Seen<H::Places>,
 }
 
-impl<'a, H: Host, A: Acceptor<Holder = H::Holder>> Admission for Entrance<'a, H, A> {
+impl<'a, H: Host> Admission for Entrance<'a, H>
+where
+    H::Holder: Send,
+{
+    /// A connection that was accepted; none if it found no memory.
+    type Came = Option<Accepted<H::Holder>>;
+
     type Work = Admitted<'a, H>;
 
     type Refusal = Refused;
 
     ghost let_in = { λ entrance. caller_share entrance.admitter };
 
-    ghost failed_last = { λ entrance. A.failed_last entrance.acceptor };
-
     ghost all_retired = { λ entrance. is_some entrance.seen.retired };
 
     ghost is_spent = { λ entrance. is_some entrance.seen.spent };
 
-    fn wait_for_room(&mut self) -> bool {
+    fn admit(&mut self, came: Option<Accepted<H::Holder>>) -> LetIn<'a, H> {
+        let server = self.server;
+        let Some(accepted) = came else {
+            return lack_memory(&server.context);
+        };
+        let_in(server, &mut self.admitter, &mut self.seen.spent, accepted)
+    }
+
+    fn has_places(&mut self) -> bool {
         let context = &self.server.context;
-        match context.site.room(context.rt) {
-            Ok(()) => true,
-            Err(retired) => {
+        match context.site.retired(context.rt) {
+            None => true,
+            Some(retired) => {
                 self.seen.retired = Some(retired);
                 false
             }
         }
-    }
-
-    fn next(&mut self) -> Result<LetIn<'a, H>, AcceptFault> {
-        let server = self.server;
-        match self.acceptor.accept() {
-            Ok(accepted) => Ok(let_in(server, &mut self.admitter, &mut self.seen.spent, accepted)),
-            Err(AcceptFault::OutOfMemory) => Ok(lack_memory(&server.context)),
-            Err(fault) => Err(fault),
-        }
-    }
-
-    fn close(&mut self) {
-        self.acceptor.close();
     }
 }
 

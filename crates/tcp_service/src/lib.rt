@@ -33,6 +33,6 @@ pub use server_words::{ConnectionLimits, Level, Mode};
 pub use service::Service;
 pub use serving::{Closed, Unfinished, serve};
 pub use tcp_connections::{
-    AcceptFault, Accepted, Acceptor, Follow, HostNames, NotStarted, Patience, Reserve, ServeEnd,
-    Shut, Starter, Supply,
+    AcceptError, AcceptFault, Accepted, Acceptor, Errors, Follow, HostNames, NotStarted, Patience,
+    Reserve, ServeEnd, Shut, Starter, Supply,
 };

@@ -110,7 +110,7 @@ impl<H: Host> Server<'_, H> {
                 Ok((running, agent.into_found(), process))
             }
             Served::Denied | Served::StartFailed(_) | Served::Dropped(_) => {
-                let over = Over::of(&agent, serial);
+                let over = Over::of(&agent, serial, false);
                 drop(agent);
                 Err(over)
             }
@@ -133,13 +133,14 @@ impl<H: Host> Server<'_, H> {
             (asked result.last.value) serial }
     {
         let ended = wait_in_rounds(running, by_force);
+        let is_retired = ended.is_err();
         if let Some(shut) = shut {
             shut.shut();
         }
         let notes = Notes::of(process);
         let mut agent = self.context.agent(serial, local, &notes);
         agent.tell_end(ended);
-        let over = Over::of(&agent, serial);
+        let over = Over::of(&agent, serial, is_retired);
         drop(agent);
         over
     }
@@ -196,7 +197,7 @@ impl<'a, H: Host> Admitted<'a, H> {
         let notes = Notes::of(None);
         let mut agent = server.context.agent(serial, &local, &notes);
         agent.dropped(place, serial, &peer, cause);
-        let over = Over::of(&agent, serial);
+        let over = Over::of(&agent, serial, false);
         drop(agent);
         streams.end();
         drop(local);

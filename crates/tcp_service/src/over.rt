@@ -1,7 +1,7 @@
 //! That a connection is over.
 ghost use Rattle.std.specs.Prelude.{◌≡◌};
 ghost use Rattle.tcp_service.specs.Agents.{asked};
-ghost use Rattle.tcp_service.specs.Lives.{IsEndOf};
+ghost use Rattle.tcp_service.specs.Lives.{IsEndOf, retires};
 
 use crate::agent::LoggedAgent;
 use crate::host::AgentGround;
@@ -12,19 +12,28 @@ use std::snapshot::Snapshot;
 #[derive(Drop)]
 pub(crate) struct Over {
     serial: u64,
+    /// Whether its place is never free again.
+    pub(crate) is_retired: bool,
     // what its site answered last
     last: Snapshot<Option<Result<Made, OutOfTurn>>>,
+    ghost retired: { is_retired ≡ retires (asked last.value) },
 }
 
 impl Over {
-    /// That the connection with this serial number is, by its agent.
-    pub(crate) fn of<G: AgentGround>(agent: &LoggedAgent<'_, G>, serial: u64) -> Over
+    /// That the connection with this serial number is, by its agent; and whether it was retired.
+    pub(crate) fn of<G: AgentGround>(
+        agent: &LoggedAgent<'_, G>,
+        serial: u64,
+        is_retired: bool,
+    ) -> Over
         requires told { IsEndOf (asked agent.now.last) serial }
+        requires retired { is_retired ≡ retires (asked agent.now.last) }
         ensures own { result.serial ≡ serial }
         ensures last { result.last.value ≡ agent.now.last }
     {
         Over {
             serial,
+            is_retired,
             last: Snapshot::of(&agent.last),
         }
     }

@@ -17,19 +17,19 @@ use std::snapshot::Snapshot;
 use std::sync::Mutex;
 use std::thread::Threads;
 use std::time::Clock;
-use tcp_connections::{Acceptor, ServeEnd, serve_through};
+use tcp_connections::{Acceptor, Errors, ServeEnd, serve_through};
 
 /// A server that has come to its end: nobody is let in any more and its threads have ended, both callers of its site
 /// are back and the site is closed. Each connection that is alive still is a retired one. For want of places it ended
 /// only if its site has said that all are retired, and for want of numbers only if it has said that none is left.
 #[derive(Drop)]
-pub struct Closed<H: Host, A> {
+pub struct Closed<H: Host> {
     /// How it ended.
     pub end: ServeEnd,
     /// What its site was made of, with all that happened.
     pub yard: YardOf<H>,
-    /// Where its connections came from, closed.
-    pub acceptor: A,
+    /// The errors of accepting that came last in succession.
+    pub errors: Errors,
     // what its site has said of all connections that would have followed
     seen: Seen<H::Places>,
     // the caller that let connections in, and the one that made all other events
@@ -63,8 +63,8 @@ pub struct Unfinished<H: Host> {
 /// Of the two callers of the site the first lets connections in, and makes no other events; the second makes all
 /// others. `plan` is what each connection is served by. `starter` starts programs that have what the service's mode
 /// says as their standard input and output. Each connection opens `rules` for itself. Once no more connections are let
-/// in, the acceptor is closed. By faults of accepting the server ends only if the last hundred calls of the acceptor
-/// failed, or if there was too little for one connection.
+/// in, the acceptor is dropped. By faults of accepting the server ends only if the last hundred answers of the acceptor
+/// were errors, or if there was too little for one connection.
 ///
 /// # Errors
 /// A place is lost: its connection is alive, and no thread has it. The site is closed all the same.
@@ -79,7 +79,7 @@ pub fn serve<'a, H, A>(
     plan: &'a Plan,
     service: &'a Service<'a>,
     log: &'a Mutex<Log<H::Lines>>,
-) -> Result<Closed<H, A>, Unfinished<H>>
+) -> Result<Closed<H>, Unfinished<H>>
 where
     H: Host + Send + Sync,
     H::Runtime: Threads + Clock + Sync,
@@ -95,13 +95,13 @@ where
     H::Job: Send,
     H::Input: Send,
     H::Output: Send,
-    A: Acceptor<Holder = H::Holder> + Send + Drop,
+    A: Acceptor<Holder = H::Holder> + Send + Sync + Drop,
     requires callers { (H.Callers.all ≡ 2) × (H.Callers.parts ≡ 2)
         × (vec_len callers ≡ 2) × (total_share callers.items ≡ 0) }
     ensures count { IfOk result (λ closed.
         IsServed closed.end service.now.limits.count 0 (caller_share closed.admitter.value)) }
     ensures faults { IfOk result (λ closed. closed.end ≡ AcceptFaults
-        → FailedToAccept (suffices service.now.supply) (A.failed_last closed.acceptor)) }
+        → FailedToAccept (suffices service.now.supply) closed.errors.count) }
     ensures then_too { IfErr result (λ unfinished.
         IsServed unfinished.end service.now.limits.count 0 (caller_share unfinished.admitter.value)) }
 {
@@ -126,28 +126,27 @@ where
     let (limits, supply) = (service.limits, service.supply);
     let entrance = Entrance {
         server: &server,
-        acceptor,
         admitter,
         seen: Seen::new(),
     };
-    let (end, entrance) = serve_through(
+    let (end, entrance, errors) = serve_through(
         rt,
         alloc,
+        acceptor,
         entrance,
         &server,
-        usize::try_from(limits.connections).unwrap_or(usize::MAX),
+        limits.connections,
         limits.count,
         supply,
         &service.reserve,
     );
     let Entrance {
         server: _,
-        acceptor,
         admitter,
         seen,
     } = entrance;
     let teller = teller.into_inner();
-    close(end, acceptor, seen, site, callers, admitter, teller)
+    close(end, errors, seen, site, callers, admitter, teller)
 }
 
 // The two callers of a site, the second first.
@@ -166,21 +165,21 @@ fn both<N: Callers>(callers: &mut Vec<Caller<N>>) -> (Caller<N>, Caller<N>)
 
 // Closes a site with both of its callers, and looks whether each connection that is alive still is retired.
 #[tactic(auto, using(crate::proofs::Shares::of_both))]
-fn close<H: Host, A: Drop>(
+fn close<H: Host>(
     end: ServeEnd,
-    acceptor: A,
+    errors: Errors,
     seen: Seen<H::Places>,
     site: Site<H>,
     callers: Vec<CallerOf<H>>,
     admitter: CallerOf<H>,
     teller: CallerOf<H>,
-) -> Result<Closed<H, A>, Unfinished<H>>
+) -> Result<Closed<H>, Unfinished<H>>
     requires places { end ≡ NoPlaces → IsTrue (is_some seen.retired) }
     requires spent { end ≡ Spent → IsTrue (is_some seen.spent) }
     requires all { (H.Callers.all ≡ 2) × (H.Callers.parts ≡ 2) }
     requires room { (callers.items ≡ []) × (2 ≤ vec_capacity callers) }
     ensures end { IfOk result (λ closed. (closed.end ≡ end) × (closed.admitter.value ≡ admitter)) }
-    ensures acceptor { IfOk result (λ closed. closed.acceptor ≡ acceptor) }
+    ensures errors { IfOk result (λ closed. closed.errors ≡ errors) }
     ensures lost { IfErr result (λ unfinished. (unfinished.end ≡ end) × (unfinished.admitter.value ≡ admitter)) }
 {
     let mut callers = callers;
@@ -194,13 +193,12 @@ fn close<H: Host, A: Drop>(
         Ok(Closed {
             end,
             yard,
-            acceptor,
+            errors,
             seen,
             admitter: admitter_then,
             teller: teller_then,
         })
     } else {
-        drop(acceptor);
         Err(Unfinished {
             end,
             yard,

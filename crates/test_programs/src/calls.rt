@@ -20,6 +20,8 @@ use shared_site::turns::{Admit, Decided, Left, Started};
 use shared_site::{Caller, Callers, Made, OutOfTurn, Receipt, Site, Turn};
 use std::alloc::{AllocError, AllocFailed, Global};
 use std::sync::Wait;
+use std::thread;
+use std::time::{Clock, Duration};
 use whole_yard::{InstallBegin, InstallStep, Open};
 
 /// More steps than an installation of a short text takes.
@@ -93,7 +95,7 @@ fn decide_by<L: Assumptions, F: RulesFile + Drop>(
 }
 
 /// Lets a connection in once there is room for it.
-pub(crate) fn let_in<L: Assumptions, N: Callers, R: Wait>(
+pub(crate) fn let_in<L: Assumptions, N: Callers, R: Wait + Clock>(
     rt: &R,
     site: &Site<InMemory<L, N>>,
     caller: &mut Caller<N>,
@@ -101,7 +103,7 @@ pub(crate) fn let_in<L: Assumptions, N: Callers, R: Wait>(
     receipts: &mut Vec<Receipt>,
 ) -> OrWrong<(u64, Place<L>)> {
     for _ in rt.forever() {
-        if site.room(rt).is_err() {
+        if site.retired(rt).is_some() {
             return Err(Wrong);
         }
         match site.turn(rt, caller, Admit { peer }) {
@@ -118,6 +120,7 @@ pub(crate) fn let_in<L: Assumptions, N: Callers, R: Wait>(
                 if !matches!(refusal.fault(), AdmitFault::Full) {
                     return Err(Wrong);
                 }
+                thread::sleep(rt, Duration::from_millis(1));
             }
         }
     }

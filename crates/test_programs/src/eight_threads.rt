@@ -18,6 +18,7 @@ use std::sync::Wait;
 use std::sync::ledger::Blank;
 use std::thread;
 use std::thread::Threads;
+use std::time::Clock;
 
 const CALLERS: u64 = 8;
 
@@ -38,7 +39,7 @@ struct Left<N: Callers> {
 }
 
 // Serves a connection from its admission to its end.
-fn serve<L: Assumptions, N: Callers, R: Wait>(
+fn serve<L: Assumptions, N: Callers, R: Wait + Clock>(
     rt: &R,
     alloc: Global,
     site: &Site<InMemory<L, N>>,
@@ -61,7 +62,7 @@ fn serve<L: Assumptions, N: Callers, R: Wait>(
 }
 
 // Makes all connections and installations of a caller.
-fn serve_all<L: Assumptions, N: Callers, R: Wait>(
+fn serve_all<L: Assumptions, N: Callers, R: Wait + Clock>(
     rt: &R,
     alloc: Global,
     site: &Site<InMemory<L, N>>,
@@ -90,7 +91,7 @@ fn serve_all<L: Assumptions, N: Callers, R: Wait>(
 }
 
 // The whole work of a caller.
-fn work<L: Assumptions, N: Callers, R: Wait>(
+fn work<L: Assumptions, N: Callers, R: Wait + Clock>(
     rt: &R,
     alloc: Global,
     site: &Site<InMemory<L, N>>,
@@ -106,7 +107,11 @@ fn work<L: Assumptions, N: Callers, R: Wait>(
 }
 
 // Runs eight callers in threads until all have ended.
-fn run_all<L: Assumptions + Send + Sync, N: Callers + Send + Sync, R: Threads + Wait + Sync>(
+fn run_all<
+    L: Assumptions + Send + Sync,
+    N: Callers + Send + Sync,
+    R: Threads + Wait + Clock + Sync,
+>(
     rt: &R,
     alloc: Global,
     site: &Site<InMemory<L, N>>,
@@ -161,7 +166,7 @@ fn report_of<L: Assumptions>(
 fn eight<
     L: Assumptions + Send + Sync,
     N: Callers + Send + Sync,
-    R: Threads + Wait + Sync + AllocGlobal,
+    R: Threads + Wait + Clock + Sync + AllocGlobal,
 >(rt: &R, places: Blank, parts: Blank) -> OrWrong<Report>
     requires places { (places.name ≡ L.name) × (places.parts ≡ L.parts) × (places.parts ≡ LIMIT) }
     requires met { L.met ≡ false }
@@ -190,7 +195,7 @@ fn eight<
 /// # Errors
 /// A call did not succeed, the receipts of all callers are not the whole history, or the yard reports what its history
 /// does not come to.
-pub(crate) fn eight_callers_in_threads<R: Threads + Wait + Sync + AllocGlobal>(
+pub(crate) fn eight_callers_in_threads<R: Threads + Wait + Clock + Sync + AllocGlobal>(
     rt: &R,
 ) -> OrWrong<Report> {
     eight::<Brand, Brand, R>(rt, Blank::new(LIMIT), Blank::new(CALLERS))

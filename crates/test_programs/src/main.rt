@@ -41,7 +41,7 @@ fn last_part(path: &str) -> &str {
 }
 
 /// Adds what the report of eight callers says, if their receipts are the whole history.
-fn run_sites<R: AllocGlobal + Threads + Wait + Sync>(rt: &R, out: &mut Answer) {
+fn run_sites<R: AllocGlobal + Threads + Wait + Clock + Sync>(rt: &R, out: &mut Answer) {
     match eight_callers_in_threads(rt) {
         Ok(report) => {
             out.text("admitted ");

@@ -1,5 +1,5 @@
 //! Connections and jobs that answer as they are told.
-ghost use Rattle.std.specs.Prelude.{None, is_some, true, ⊤};
+ghost use Rattle.std.specs.Prelude.{is_some, true, ⊤};
 
 use child_jobs::{
     Environment, Job, Launcher, Local, NoEnds, Program, StartFault, Status, WaitFault,
@@ -12,7 +12,9 @@ use std::sync::{Mutex, Wait};
 use std::time::{Clock, Duration};
 use std::{io, thread};
 use stream_tools::SharedWriter;
-use tcp_service::{AcceptFault, Accepted, Acceptor, Follow, NotStarted, Patience, Shut, Starter};
+use tcp_service::{
+    AcceptError, AcceptFault, Accepted, Acceptor, Follow, NotStarted, Patience, Shut, Starter,
+};
 
 /// How many milliseconds a job waits at most for another one's start.
 const PATIENCE: u64 = 10_000;
@@ -49,42 +51,52 @@ impl<F> Follow<F> for Silent {
 ///
 /// They come by turns from a number of addresses, of which 127.0.0.1 is the last.
 #[derive(Drop)]
-pub struct Clients {
-    pub lost: u64,
-    pub left: u64,
+pub struct Clients<'a, R> {
+    pub rt: &'a R,
+    pub left: Mutex<ClientsLeft>,
     pub addresses: u8,
 }
 
-impl Acceptor for Clients {
+/// How many connections come still.
+#[derive(Clone, Copy)]
+pub struct ClientsLeft {
+    /// That find no memory.
+    pub lost: u64,
+    /// That come then.
+    pub clients: u64,
+}
+
+impl<R: Wait> Acceptor for Clients<'_, R> {
     type Holder = Silent;
 
-    ghost failed_last = { λ _ _. true };
-
-    ghost last_error = { λ _. None };
-
-    fn accept(&mut self) -> Result<Accepted<Silent>, AcceptFault> {
-        if let Some(lost) = self.lost.checked_sub(1) {
-            self.lost = lost;
-            return Err(AcceptFault::OutOfMemory);
+    fn accept(&self) -> Result<Option<Accepted<Silent>>, AcceptError> {
+        let mut left = self.left.lock(self.rt);
+        if let Some(lost) = left.lost.checked_sub(1) {
+            left.lost = lost;
+            return Ok(None);
         }
-        self.left = self.left.checked_sub(1).ok_or(AcceptFault::Other)?;
-        let last = (self.left % u64::from(self.addresses.max(1))) as u8;
-        Ok(Accepted {
+        let Some(clients) = left.clients.checked_sub(1) else {
+            return Err(AcceptError {
+                fault: AcceptFault::Other,
+                number: None,
+            });
+        };
+        left.clients = clients;
+        let last = (clients % u64::from(self.addresses.max(1))) as u8;
+        Ok(Some(Accepted {
             reader: Silent,
             writer: Silent,
             shut: Silent,
             ip: [127, 0, 0, last.saturating_add(1)],
             port: 1024,
             local: Local::new([127, 0, 0, 1], 25, None),
-        })
+        }))
     }
 
-    fn error(&self) -> Option<i32> {
-        None
-    }
-
-    fn close(&mut self) {
-        self.left = 0;
+    fn wake(&self) {
+        let mut left = self.left.lock(self.rt);
+        left.lost = 0;
+        left.clients = 0;
     }
 }
 

@@ -4,7 +4,7 @@ ghost use Rattle.shared_site.specs.Callers.{total_share};
 
 use crate::answer::Answer;
 use crate::history::add_history;
-use crate::scripts::{Clients, ScriptedJob, Scripts, ServedTally, Silent};
+use crate::scripts::{Clients, ClientsLeft, ScriptedJob, Scripts, ServedTally, Silent};
 use child_jobs::{Environment, Plan, Program};
 use dir_calls::{Dir, DirFault};
 use fault_hints::Voice;
@@ -192,11 +192,14 @@ where
         return out.fail();
     };
     let acceptor = Clients {
-        lost: asked.lost,
-        left: asked.clients,
+        rt,
+        left: Mutex::new(ClientsLeft {
+            lost: asked.lost,
+            clients: asked.clients,
+        }),
         addresses: asked.addresses,
     };
-    let served = serve::<InMemory<'a, 'w, R, L, N>, Clients>(
+    let served = serve::<InMemory<'a, 'w, R, L, N>, Clients<'a, R>>(
         rt, alloc, acceptor, site, callers, &NoRules, launcher, plan, service, log,
     );
     match served {

@@ -1,5 +1,5 @@
 -- Whether what a server has is what its words ask for.
-use Rattle.std.specs.Prelude.{◌≡◌, ℕ, List, IfSome}
+use Rattle.std.specs.Prelude.{◌≡◌, ℕ, List}
 use Rattle.child_jobs.specs.Plans.{PlanText}
 use Rattle.fault_hints.specs.declared.voice.Voice.{Voice}
 use Rattle.server_log.specs.Logs.{level_of, limit_of, voice_of}
@@ -37,7 +37,7 @@ pub record IsAskedLog {W : Type 0} (words : ServerPlan) (speaker : Voice) (log :
 -- they say, and what is written to them is sent at once by `-D`
 pub record AcceptsAsAsked {R T : Type 0} (listens : T → List ℕ → ℕ → Type 0) (words : ServerPlan)
     (acceptor : SocketAcceptor R T) : Type 0 where
-  pub from : IfSome (accepts_from acceptor) (λ listener. listens listener words.service.address words.service.port)
+  pub from : listens (accepts_from acceptor) words.service.address words.service.port
   pub mode : accepts_in acceptor ≡ words.mode
   pub at_once : accepts_at_once acceptor ≡ words.no_delay
 

@@ -15,6 +15,7 @@ use std::fs::{File, Files};
 use std::io::{Read, Write};
 use std::marker::PhantomData;
 use std::net::{Net, OpenListener, TcpStream};
+use std::os::fd::AsRawFd;
 use std::process::{ChildStdin, ChildStdout, OpenProcess, Processes};
 use std::rt::Env;
 use std::sync::{Mutex, Wait};
@@ -39,7 +40,7 @@ pub(crate) trait System {
     type Folder: Read + Send + Sync + Drop;
 
     /// A socket that listens.
-    type Listener: OpenListener<Stream = TcpStream> + Send + Sync + Drop;
+    type Listener: OpenListener<Stream = TcpStream> + AsRawFd + Send + Sync + Drop;
 
     /// A program that was started, with the ends of its pipes.
     type Process: OpenProcess<

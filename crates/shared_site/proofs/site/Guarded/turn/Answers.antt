@@ -16,7 +16,6 @@ returns g c = record {
     same_number = search rules;
   };
   runs_on = λ servers events run. run_on _ (yard_roll c.args.self.now.yard) _ _ (c.run-answer.ensures.notes servers) events run;
-  wakes = search rules;
 }
 
 pub invariant_of-self : goal.invariant_of-self
