@@ -218,6 +218,23 @@ def eleven_hundred_begin(suite):
     resource.setrlimit(resource.RLIMIT_NOFILE, before)
 
 
+def signals_of_ended_threads(suite):
+    """Programs that ask for a signal once the thread that started them has ended get none while they run: among many, and after the last client of
+    `-k`, when the server lets nobody in any more."""
+    program = [shutil.which("setpriv"), "--pdeathsig", "KILL", shutil.which("cat")]
+    with suite.start(["-v", "-c", "80", "-k", "70"] + server_runs.QUIET, program) as server:
+        clients = [server.connect() for _ in range(70)]
+        for word in (b"x", b"y"):
+            for client in clients:
+                client.sendall(word)
+            suite.expect("all that talk", [client.recv(1) for client in clients], [word] * 70)
+            time.sleep(0.5)
+        suite.expect("their ends", set(server_runs.finish(clients)), {b""})
+        suite.expect("the end of the server", server.end(), 0)
+        suite.expect("programs that a signal ended", [line for line in server.lines() if "signal" in line], [])
+        suite.audit("signals of ended threads", server)
+
+
 def waits_for_a_process(suite):
     """A program for which the system has no process waits for one for about a minute, and is given up then; a hundred times as fast."""
     for refused, answer, line in ((60, b"hi\n", log_forms.end(1)), (200, b"", log_forms.start(1, "failed"))):
@@ -251,10 +268,11 @@ def no_signals(suite):
 
 
 CHECKS = [
-    faults_counted_anew, faults_after_a_crowd, wants_of_room, room_while_some_are_alive, seventy_thousand_reads, unread_banners, many_variables, waits_for_a_process, no_signals,
+    faults_counted_anew, faults_after_a_crowd, wants_of_room, room_while_some_are_alive, seventy_thousand_reads, unread_banners, many_variables, signals_of_ended_threads,
+    waits_for_a_process, no_signals,
 ]
 COMMON = []
 HANDED = [
     faults_counted_anew, faults_after_a_crowd, wants_of_room, room_while_some_are_alive, unread_banners, many_variables, twelve_hundred, eleven_hundred_begin,
-    waits_for_a_process, no_signals,
+    signals_of_ended_threads, waits_for_a_process, no_signals,
 ]

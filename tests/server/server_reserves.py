@@ -212,22 +212,26 @@ def refused_threads(suite):
 
 
 def kept_threads(suite):
-    """Threads are made when more connections come at once than there are threads for, and kept: one after another takes none; they end with
-    the server."""
+    """Threads are made when more connections come at once than there are threads for, and kept: one after another takes none. Where many are served
+    at once, each has a thread that ends with it. All end with the server."""
     each = 1 if suite.handed else 2
     # the first thread, and one that is a process in reserve
     others = 2
-    with suite.start(["-v", "-c", "40", "-k", "231"] + server_runs.QUIET, [shutil.which("cat")]) as server:
+    with suite.start(["-v", "-c", "100", "-k", "321"] + server_runs.QUIET, [shutil.which("cat")]) as server:
+        def talking(count):
+            clients = [server.connect() for _ in range(count)]
+            for client in clients:
+                client.sendall(b"x")
+                suite.expect("%d at once" % count, client.recv(1), b"x")
+            return clients
+
         server_runs.wait_until("the first threads", lambda: server.threads() == others + each)
         for _ in range(200):
             suite.expect("one after another", server.ask(b"a\n"), b"a\n")
         # the next client may come before the last connection is told
         suite.holds("threads after 200 connections", server.threads() <= others + 12 * each, server.threads())
-        clients = [server.connect() for _ in range(30)]
-        for client in clients:
-            client.sendall(b"x")
-            suite.expect("thirty at once", client.recv(1), b"x")
-        # each has one, and some begin connections: more where the machine has other work
+        # each of thirty has one, and some begin connections: more where the machine has other work
+        clients = talking(30)
         least = others + 31 * each
         server_runs.wait_until("threads of thirty at once", lambda: server.threads() >= least)
         kept = server.threads()
@@ -235,7 +239,13 @@ def kept_threads(suite):
         for client in clients:
             client.close()
         server_runs.wait_until("their ends", lambda: server.live() == 0)
-        suite.holds("threads after them", kept <= server.threads() <= kept + 2 * each, (server.threads(), kept))
+        suite.holds("threads after them", kept - 2 * each <= server.threads() <= kept + 2 * each, (server.threads(), kept))
+        clients = talking(90)
+        server_runs.wait_until("threads of ninety at once", lambda: server.threads() >= others + 91 * each)
+        for client in clients:
+            client.close()
+        server_runs.wait_until("their ends", lambda: server.live() == 0)
+        server_runs.wait_until("the ends of threads", lambda: server.threads() <= others + 60 * each)
         suite.expect("the last one", server.ask(b"a\n"), b"a\n")
         suite.expect("its end", server.end(), 0)
         suite.audit("kept threads", server)

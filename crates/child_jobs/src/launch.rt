@@ -1,12 +1,12 @@
 //! Programs, the jobs that run them, and what starts a job.
 ghost use Rattle.std.specs.Prelude.{◌≡◌, true, false, Bool, Result, map, string_bytes, IfOk, IfErr, OnOk};
-ghost use Rattle.child_jobs.specs.declared.outcome.StartFault.{StartFault as Fault};
+ghost use Rattle.child_jobs.specs.declared.outcome.NotStarted.{NotStarted as Refusal};
 ghost use Rattle.child_jobs.specs.declared.outcome.Status.{Status as StatusOf};
 ghost use Rattle.child_jobs.specs.declared.launch.WaitFault.{WaitFault};
 ghost use Rattle.child_jobs.specs.Variables.{Variables};
 ghost use Rattle.child_jobs.specs.Programs.{ProgramText};
 
-use crate::{Environment, StartFault, Status};
+use crate::{Environment, Exit, NotStarted};
 use std::alloc::Global;
 use std::io::{Read, Write};
 use std::marker::Model;
@@ -125,15 +125,20 @@ pub trait Job {
         ensures program { program self.new ≡ program self.old }
         ensures environment { environment self.new ≡ environment self.old };
 
+    /// The system's number of the process that runs the program, if it is known.
+    fn process(&self) -> Option<u32> {
+        None
+    }
+
     /// Waits until the program has ended, and answers how it ended.
     ///
     /// # Errors
     /// `Failed` if the system refused it; `OutOfMemory`. The job is handed back and may be waited for again. Pipe ends
     /// that were not given are closed, so that a program can end which reads its input to the end.
-    fn wait(self) -> Result<Status, (Self, WaitFault)>
+    fn wait(self) -> Result<Exit, (Self, WaitFault)>
     where
         Self: Sized,
-        ensures told { IfOk result (ended self) }
+        ensures told { IfOk result (λ exit. ended self exit.status) }
         ensures refused { IfErr result (λ refused. refused_wait self refused.0 refused.1) }
         ensures program { IfErr result (λ refused. program refused.0 ≡ program self) }
         ensures environment { IfErr result (λ refused. environment refused.0 ≡ environment self) }
@@ -154,8 +159,8 @@ pub trait Launcher {
     /// The job that it starts.
     type Job: Job;
 
-    /// Why it may refuse a program with these variables. A launcher of which nothing is known may answer any fault.
-    ghost refuses: { Self → ProgramText → Variables → Fault → Type 0 };
+    /// Why it may refuse a program with these variables. A launcher of which nothing is known may answer anything.
+    ghost refuses: { Self → ProgramText → Variables → Refusal → Type 0 };
 
     /// Starts a program with these variables and no others, its standard input and output on pipes. The launcher is
     /// spent by one try.
@@ -170,7 +175,7 @@ pub trait Launcher {
         alloc: Global,
         program: &Program,
         environment: &Environment,
-    ) -> Result<Self::Job, StartFault>
+    ) -> Result<Self::Job, NotStarted>
     where
         Self: Sized,
         ensures refused { IfErr result (refuses self program.now environment.now) }

@@ -26,7 +26,7 @@ pub use environment::{Environment, Variable};
 pub use hosts::{HostFault, HostTable};
 pub use launch::{Job, Launcher, NoEnds, Program, WaitFault};
 pub use local::Local;
-pub use outcome::{DropCause, StartFault, Status};
+pub use outcome::{DropCause, Exit, NotStarted, StartFault, Status};
 pub use place::Place;
 pub use plan::Plan;
 pub use running::{Running, finish, start};

@@ -22,6 +22,31 @@ pub enum StartFault {
     OutOfMemory,
 }
 
+/// Why a program was not started: what is told of it, and the system's number of its error (`errno`), if the system
+/// refused it.
+#[derive(Clone, Copy)]
+pub struct NotStarted {
+    /// What is told.
+    pub fault: StartFault,
+    /// The number of the error.
+    pub error: Option<i32>,
+}
+
+impl From<StartFault> for NotStarted {
+    fn from(fault: StartFault) -> NotStarted {
+        NotStarted { fault, error: None }
+    }
+}
+
+/// How a program ended.
+#[derive(Clone, Copy)]
+pub struct Exit {
+    /// What is told.
+    pub status: Status,
+    /// The system's number of the signal that ended it, if one did and it is known.
+    pub signal: Option<u32>,
+}
+
 /// Why a connection was dropped before a child was started.
 #[derive(Clone, Copy, PartialEq, Eq, Debug)]
 pub enum DropCause {

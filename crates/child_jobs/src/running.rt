@@ -4,7 +4,7 @@ ghost use Rattle.child_jobs.specs.PlacesOut.{is_used};
 ghost use Rattle.child_jobs.specs.Runs.{IsSameRun, job_of, place_of};
 
 use crate::launch::{Job, Launcher, NoEnds, Program, WaitFault};
-use crate::{Environment, Place, PlaceTable, StartFault, Status};
+use crate::{Environment, Exit, NotStarted, Place, PlaceTable};
 use std::alloc::Global;
 use std::sync::ledger::Ledger;
 
@@ -23,6 +23,11 @@ impl<L: Ledger, J: Job> Running<L, J> {
         ensures { result.now ≡ place_of self.now }
     {
         &self.place
+    }
+
+    /// The system's number of its process, if it is known.
+    pub fn process(&self) -> Option<u32> {
+        self.job.process()
     }
 
     /// Gives the two ends of its pipes, once, as `Job::ends` does. It takes no memory.
@@ -84,7 +89,7 @@ pub fn start<L: Ledger, S: Launcher>(
     launcher: S,
     program: &Program,
     environment: &Environment,
-) -> Result<Running<L, S::Job>, (Place<L>, StartFault)>
+) -> Result<Running<L, S::Job>, (Place<L>, NotStarted)>
     ensures place { IfOk result (λ running. place_of running ≡ place) }
     ensures program { IfOk result (λ running. S.Job.program (job_of running) ≡ program.now) }
     ensures environment { IfOk result (λ running. S.Job.environment (job_of running) ≡ environment.now) }
@@ -93,7 +98,7 @@ pub fn start<L: Ledger, S: Launcher>(
 {
     match launcher.start(alloc, program, environment) {
         Ok(job) => Ok(Running { job, place }),
-        Err(fault) => Err((place, fault)),
+        Err(refusal) => Err((place, refusal)),
     }
 }
 
@@ -103,16 +108,16 @@ pub fn start<L: Ledger, S: Launcher>(
 /// Those of `Job::wait`: the same child holds the same place, has no pipe ends to give, and may be waited for again.
 pub fn finish<L: Ledger, J: Job>(
     running: Running<L, J>,
-) -> Result<(Place<L>, Status), (Running<L, J>, WaitFault)>
+) -> Result<(Place<L>, Exit), (Running<L, J>, WaitFault)>
     ensures place { IfOk result (λ ended. ended.0 ≡ place_of running) }
-    ensures told { IfOk result (λ ended. J.ended (job_of running) ended.1) }
+    ensures told { IfOk result (λ ended. J.ended (job_of running) ended.1.status) }
     ensures refused { IfErr result (λ refused. J.refused_wait (job_of running) (job_of refused.0) refused.1) }
     ensures same { IfErr result (λ refused. IsSameRun J.program J.environment running refused.0) }
     ensures no_ends { IfErr result (λ refused. J.has_ends (job_of refused.0) ≡ false) }
 {
     let Running { job, place } = running;
     match job.wait() {
-        Ok(status) => Ok((place, status)),
+        Ok(exit) => Ok((place, exit)),
         Err((job, fault)) => Err((Running { job, place }, fault)),
     }
 }

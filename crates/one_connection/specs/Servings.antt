@@ -13,6 +13,7 @@ use Rattle.rule_lookup.specs.declared.decision.DecideFault.TheVariants.{Find, Co
 use Rattle.rules_install.specs.Steps.{HasFailed}
 use Rattle.child_jobs.specs.declared.outcome.DropCause.{DropCause}
 use Rattle.child_jobs.specs.declared.outcome.DropCause.TheVariants as cause
+use Rattle.child_jobs.specs.declared.outcome.NotStarted.{NotStarted}
 use Rattle.child_jobs.specs.declared.outcome.StartFault.{StartFault}
 use Rattle.child_jobs.specs.Child.{environment_of}
 use Rattle.child_jobs.specs.Ends.{LocalEnd}
@@ -52,13 +53,19 @@ pub record IsChild (finds : Opening → Type 0) (honest sound : Bool) (peer : Cl
   pub allowed : IsPrepared finds honest sound peer local plan Allow environment
   pub planned : program ≡ plan.program
 
+-- a program was refused in a way in which it may be, of which this fault is told
+pub record RefusesBy (refuses : NotStarted → Type 0) (fault : StartFault) : Type 0 where
+  pub refusal : NotStarted
+  pub refused : refuses refusal
+  pub told : fault ≡ refusal.fault
+
 -- a child of an allowed connection was to be started, and the launcher refused the plan's program with the variables of
 -- the decision
 pub record IsRefused (finds : Opening → Type 0) (honest sound : Bool) (peer : Client) (local : LocalEnd) (plan : PlanText)
-    (refuses : ProgramText → Variables → StartFault → Type 0) (fault : StartFault) : Type 0 where
+    (refuses : ProgramText → Variables → NotStarted → Type 0) (fault : StartFault) : Type 0 where
   pub environment : Variables
   pub allowed : IsPrepared finds honest sound peer local plan Allow environment
-  pub refused : refuses plan.program environment fault
+  pub refused : RefusesBy (refuses plan.program environment) fault
 
 -- the cause of a drop if a decision fails
 abbrev pub cause_of : DecideFault → DropCause

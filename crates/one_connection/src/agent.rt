@@ -11,7 +11,7 @@ ghost use Rattle.server_events.specs.declared.event.Stage.TheVariants as stage;
 ghost use Rattle.one_connection.specs.Openings.{Decides, FailsToDecide, FailsToOpen, RefusesDecision, Opening, cause_of_open};
 ghost use Rattle.one_connection.specs.Unstarted.{IsUnstarted};
 
-use child_jobs::{DropCause, Job, Place, Running, StartFault};
+use child_jobs::{DropCause, Job, NotStarted, Place, Running};
 use dir_calls::DirFault;
 use rule_lookup::{DecideFault, Decision, Peer};
 use server_yard::Assumptions;
@@ -152,10 +152,10 @@ pub trait Agent<L: Assumptions> {
         ensures started { is_shared ≡ false → stands self.new (place_of running.now) number peer.now stage.Started }
         ensures keeps { found self.new ≡ found self.old };
 
-    /// Notes that the child of an allowed connection could not be started, for this fault. The connection is gone.
-    fn start_failed(&mut self, place: Self::Place, number: u64, peer: &Peer, fault: StartFault)
+    /// Notes that the child of an allowed connection was not started, for this reason. The connection is gone.
+    fn start_failed(&mut self, place: Self::Place, number: u64, peer: &Peer, refusal: NotStarted)
         requires stands { stands self.old (index place) number peer.now (stage.Decided Allow) }
-        ensures told { tells self.old (StartFailed number fault) self.new }
+        ensures told { tells self.old (StartFailed number refusal.fault) self.new }
         ensures gone { is_gone self.new number }
         ensures keeps { found self.new ≡ found self.old };
 

@@ -6,13 +6,14 @@ ghost use Rattle.child_jobs.specs.declared.outcome.DropCause.TheVariants as caus
 ghost use Rattle.server_events.specs.declared.event.Event.TheVariants.{Dropped, StartFailed};
 ghost use Rattle.server_events.specs.declared.event.Stage.TheVariants as stage;
 ghost use Rattle.one_connection.specs.Openings.{WasFound};
-ghost use Rattle.one_connection.specs.Servings.{ComesAt, Drops, FailsFor, Greets, HasCome, IfDropped, IfRunning, IfStartFailed, IsChild, IsDecidedAs, IsLastTold, IsPrepared, IsRefused, OnDenied, UnlessRunning, cause_of, is_cut_short, last_event};
+ghost use Rattle.one_connection.specs.Servings.{ComesAt, Drops, FailsFor, Greets, HasCome, IfDropped, IfRunning, IfStartFailed, IsChild, IsDecidedAs, IsLastTold, IsPrepared, IsRefused, OnDenied, RefusesBy, UnlessRunning, cause_of, is_cut_short, last_event};
 ghost use Rattle.one_connection.specs.Unstarted.{IsUnstarted, StandsUndenied};
 
 use crate::agent::Agent;
 use byte_streams::write_out;
 use child_jobs::{
-    DropCause, Environment, Job, Launcher, Local, Place, Plan, Running, StartFault, build, start,
+    DropCause, Environment, Job, Launcher, Local, NotStarted, Place, Plan, Running, StartFault,
+    build, start,
 };
 use rule_lookup::{DecideFault, FindFault, Peer, Verdict};
 use server_yard::Assumptions;
@@ -115,21 +116,21 @@ fn give_up<L: Assumptions, D: Agent<L, Place = Place<L>>>(
     agent.dropped(place, serial, peer, cause);
 }
 
-// Tells that the child of a connection could not be started.
+// Tells that the child of a connection was not started, for this reason.
 fn tell_failure<L: Assumptions, D: Agent<L, Place = Place<L>>>(
     agent: &mut D,
     place: Place<L>,
     serial: u64,
     peer: &Peer,
-    fault: StartFault,
+    refusal: NotStarted,
 )
     requires index { (place : ℕ) → D.index place ≡ place }
     requires stands { D.stands agent.old place serial peer.now (stage.Decided Allow) }
-    ensures told { D.tells agent.old (StartFailed serial fault) agent.new }
+    ensures told { D.tells agent.old (StartFailed serial refusal.fault) agent.new }
     ensures gone { D.is_gone agent.new serial }
     ensures keeps { D.found agent.new ≡ D.found agent.old }
 {
-    agent.start_failed(place, serial, peer, fault);
+    agent.start_failed(place, serial, peer, refusal);
 }
 
 // Starts the child of a connection that was allowed.
@@ -149,7 +150,7 @@ fn run<L: Assumptions, D: Agent<L, Place = Place<L>>, S: Launcher>(
         × (S.Job.environment (job_of child) ≡ environment.now)) }
     ensures started { IfRunning result (λ child. (place_of child ≡ place)
         × (D.is_shared ≡ false → D.stands agent.new place serial peer.now stage.Started)) }
-    ensures refused { IfStartFailed result (S.refuses launcher plan.now.program environment.now) }
+    ensures refused { IfStartFailed result (RefusesBy (S.refuses launcher plan.now.program environment.now)) }
     ensures told { D.tells agent.old (last_event serial result) agent.new }
     ensures comes { ComesAt result (stage.Decided Allow) }
     ensures gone { UnlessRunning result (D.is_gone agent.new serial) }
@@ -161,9 +162,9 @@ fn run<L: Assumptions, D: Agent<L, Place = Place<L>>, S: Launcher>(
             agent.started(&running, serial, peer);
             Served::Running(running)
         }
-        Err((place, fault)) => {
-            tell_failure(agent, place, serial, peer, fault);
-            Served::StartFailed(fault)
+        Err((place, refusal)) => {
+            tell_failure(agent, place, serial, peer, refusal);
+            Served::StartFailed(refusal.fault)
         }
     }
 }

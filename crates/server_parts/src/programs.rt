@@ -2,7 +2,7 @@
 ghost use Rattle.std.specs.Prelude.{◌≡◌, ⊤, IfOk};
 
 use crate::sockets::Holder;
-use child_jobs::{Environment, Job, NoEnds, Program, StartFault, Status, WaitFault};
+use child_jobs::{Environment, Exit, Job, NoEnds, NotStarted, Program, StartFault, WaitFault};
 use libc::net::POLLOUT;
 use libc::types::pollfd;
 use server_words::Mode;
@@ -15,8 +15,8 @@ use std::process::{ChildStdin, ChildStdout, Processes};
 use std::sync::{Arc, Mutex, Wait};
 use std::time::{Clock, Duration};
 use std::{io, thread};
-use stream_tools::{NotStarted, OsJob, OsLauncher, SearchPath};
-use tcp_connections::{Process, Reserve, SignalNote, Starter};
+use stream_tools::{OsJob, OsLauncher, SearchPath};
+use tcp_connections::{Reserve, Starter};
 
 /// After so many milliseconds a write that waits looks whether its program is over.
 const PAUSE: i32 = 100;
@@ -122,17 +122,9 @@ impl<'a, R: Processes + Files + Wait + Clock> Starter<Holder<'a, R>> for Program
                 (None, Some(over.ok_or(StartFault::OutOfMemory)?))
             }
         };
-        let signal = Arc::new(alloc, Mutex::new(None)).ok();
         let job = self.start_in_time(alloc, program, environment, stream.as_ref())?;
-        let rt = self.rt;
-        let end = End { rt, over, signal };
+        let end = End { rt: self.rt, over };
         Ok(ServiceJob { job, end })
-    }
-
-    fn process_of(&self, job: &ServiceJob<'a, R>) -> Option<Process> {
-        let number = job.job.process()?;
-        let signal = Arc::try_clone(job.end.signal.as_ref()?).ok()?;
-        Some(Process { number, signal })
     }
 }
 
@@ -148,8 +140,6 @@ struct End<'a, R> {
     rt: &'a R,
     // whether it is over, for one that is pumped: it was waited for, or could not be
     over: Option<Arc<Mutex<bool>, Global>>,
-    // the signal that ended it, if there was memory for that
-    signal: Option<SignalNote>,
 }
 
 impl<'a, R: Wait + Clock> Job for ServiceJob<'a, R> {
@@ -182,19 +172,18 @@ impl<'a, R: Wait + Clock> Job for ServiceJob<'a, R> {
         self.job.kill()
     }
 
-    fn wait(self) -> Result<Status, (ServiceJob<'a, R>, WaitFault)> {
+    fn process(&self) -> Option<u32> {
+        self.job.process()
+    }
+
+    fn wait(self) -> Result<Exit, (ServiceJob<'a, R>, WaitFault)> {
         let ServiceJob { job, end } = self;
-        let outcome = job.wait_for_signal();
+        let outcome = job.wait();
         if let Some(over) = &end.over {
             *over.lock(end.rt) = true;
         }
         match outcome {
-            Ok((status, by)) => {
-                if let Some(signal) = &end.signal {
-                    *signal.lock(end.rt) = by;
-                }
-                Ok(status)
-            }
+            Ok(exit) => Ok(exit),
             Err((job, fault)) => Err((ServiceJob { job, end }, fault)),
         }
     }

@@ -13,7 +13,7 @@ use std::net::{OpenListener, Shutdown, SocketAddr, TcpStream};
 use std::os::fd::{AsRawFd, OwnedFd};
 use std::sync::{Arc, Mutex, Wait};
 use std::time::Clock;
-use tcp_connections::{AcceptError, AcceptFault, Accepted, Acceptor, Shut};
+use tcp_connections::{AcceptError, Accepted, Acceptor, Shut};
 
 /// The system's faults of a process, and of the whole system, that has too many open files.
 const TOO_MANY_FILES: i32 = 24;
@@ -160,7 +160,7 @@ where
         };
         let (Some(local), Some(peer)) = (ipv4(local), ipv4(peer)) else {
             return Err(AcceptError {
-                fault: AcceptFault::Other,
+                lacks_room: false,
                 number: None,
             });
         };
@@ -199,10 +199,9 @@ fn ipv4(end: SocketAddr) -> Option<([u8; 4], u16)> {
 // What the system's error is for a server that accepts.
 fn error_of(error: &Error) -> AcceptError {
     let number = error.raw_os_error();
-    let fault = match number {
-        Some(TOO_MANY_FILES | TOO_MANY_FILES_AT_ALL | NO_BUFFERS) => AcceptFault::NoRoom,
-        _ if error.kind() == ErrorKind::OutOfMemory => AcceptFault::NoRoom,
-        _ => AcceptFault::Other,
+    let lacks_room = match number {
+        Some(TOO_MANY_FILES | TOO_MANY_FILES_AT_ALL | NO_BUFFERS) => true,
+        _ => error.kind() == ErrorKind::OutOfMemory,
     };
-    AcceptError { fault, number }
+    AcceptError { lacks_room, number }
 }

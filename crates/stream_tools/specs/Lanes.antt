@@ -14,6 +14,7 @@ use Rattle.child_jobs.specs.Programs.{ProgramText}
 use Rattle.byte_streams.specs.Watches.{left_under, reader_of, watch_of}
 use Rattle.byte_streams.specs.declared.watched.Watch.{Watch}
 use Rattle.byte_streams.specs.declared.watched.Watched.{Watched}
+use Rattle.child_jobs.specs.declared.outcome.NotStarted.{NotStarted}
 use Rattle.child_jobs.specs.declared.outcome.StartFault.{StartFault}
 use Rattle.child_jobs.specs.declared.outcome.StartFault.TheVariants as fault
 use Rattle.child_jobs.specs.Variables.{Variables}
@@ -90,9 +91,9 @@ IsRunOf program_of environment_of program environment job = (program_of job ≡ 
 
 -- why a launcher may refuse a program with variables
 abbrev pub LauncherRefuses : Type 0 → Type 1
-LauncherRefuses L = L → ProgramText → Variables → StartFault → Type 0
+LauncherRefuses L = L → ProgramText → Variables → NotStarted → Type 0
 
 -- a launcher did not start this program with these variables, and that is told of it; the function says why it may not have
 abbrev pub IsNotStarted : {L : Type 0} → LauncherRefuses L → L → ProgramText → Variables → BetweenFault → Type 0
 IsNotStarted refuses launcher program environment told =
-    (fault : StartFault) × refuses launcher program environment fault × (told ≡ refusal_of fault)
+    (refusal : NotStarted) × refuses launcher program environment refusal × (told ≡ refusal_of refusal.fault)

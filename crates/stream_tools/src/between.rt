@@ -160,8 +160,10 @@ fn start_job<L: Launcher>(
 {
     match launcher.start(alloc, program, environment) {
         Ok(job) => Ok(job),
-        Err(StartFault::OutOfMemory) => Err(BetweenFault::OutOfMemory),
-        Err(_) => Err(BetweenFault::CannotStart),
+        Err(refusal) => Err(match refusal.fault {
+            StartFault::OutOfMemory => BetweenFault::OutOfMemory,
+            _ => BetweenFault::CannotStart,
+        }),
     }
 }
 
@@ -225,7 +227,7 @@ fn wait_once<J: Job>(job: J) -> Result<Status, WaitFault>
     ensures { IfOk result (J.ended job) }
 {
     match job.wait() {
-        Ok(status) => Ok(status),
+        Ok(exit) => Ok(exit.status),
         Err((job, fault)) => {
             job.abandon();
             Err(fault)

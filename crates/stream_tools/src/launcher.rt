@@ -1,9 +1,9 @@
 //! Programs of the system, as jobs.
 ghost use Rattle.std.specs.Prelude.{◌≡◌, false, is_some, ⊤, IfErr, IfOk};
 
-use crate::process::{ChildProcess, NotStarted, start_process};
+use crate::process::{ChildProcess, not_started, start_process};
 use crate::search::SearchPath;
-use child_jobs::{Environment, Job, Launcher, NoEnds, Program, StartFault, Status, WaitFault};
+use child_jobs::{Environment, Exit, Job, Launcher, NoEnds, NotStarted, Program, WaitFault};
 use std::alloc::Global;
 use std::cell::Cell;
 use std::fs::Files;
@@ -95,11 +95,8 @@ impl<'a, P: Processes + Files> Launcher for OsLauncher<'a, P> {
         alloc: Global,
         program: &Program,
         environment: &Environment,
-    ) -> Result<OsJob, StartFault> {
-        match self.start_between(alloc, program, environment) {
-            Ok(job) => Ok(job),
-            Err(not_started) => Err(not_started.fault),
-        }
+    ) -> Result<OsJob, NotStarted> {
+        self.start_between(alloc, program, environment)
     }
 }
 
@@ -127,12 +124,12 @@ impl<'a, P: Processes + Files> Launcher for NotingLauncher<'a, P> {
         alloc: Global,
         program: &Program,
         environment: &Environment,
-    ) -> Result<OsJob, StartFault> {
+    ) -> Result<OsJob, NotStarted> {
         match self.launcher.start_between(alloc, program, environment) {
             Ok(job) => Ok(job),
-            Err(not_started) => {
-                self.error.set(not_started.error);
-                Err(not_started.fault)
+            Err(refusal) => {
+                self.error.set(refusal.error);
+                Err(refusal)
             }
         }
     }
@@ -152,7 +149,7 @@ fn new_pipe<F: Files>(files: &F) -> Result<Pipe, NotStarted> {
             read: OwnedFd::from(read),
             write: OwnedFd::from(write),
         }),
-        Err(error) => Err(NotStarted::by(&error)),
+        Err(error) => Err(not_started(&error)),
     }
 }
 
@@ -172,34 +169,6 @@ fn job_of(
         ends,
         program: Snapshot::of(program),
         environment: Snapshot::of(environment),
-    }
-}
-
-impl OsJob {
-    /// The system's number of the process that runs the program.
-    pub fn process(&self) -> Option<u32> {
-        self.child.number()
-    }
-
-    /// Waits as `Job::wait`, and tells by which signal the program ended, where one ended it.
-    ///
-    /// # Errors
-    /// As of `Job::wait`.
-    pub fn wait_for_signal(mut self) -> Result<(Status, Option<u32>), (OsJob, WaitFault)>
-        ensures program { IfErr result (λ refused. ⟦<OsJob as Job>⟧.program refused.0 ≡ ⟦<OsJob as Job>⟧.program self) }
-        ensures environment { IfErr result (λ refused. ⟦<OsJob as Job>⟧.environment refused.0 ≡ ⟦<OsJob as Job>⟧.environment self) }
-        ensures no_ends { IfErr result (λ refused. ⟦<OsJob as Job>⟧.has_ends refused.0 ≡ false) }
-    {
-        // a program that waits for input could not end
-        drop(self.ends.take());
-        match self.child.wait() {
-            Ok(status) => {
-                let signal = self.child.signal();
-                self.abandon();
-                Ok((status, signal))
-            }
-            Err(fault) => Err((self, fault)),
-        }
     }
 }
 
@@ -228,10 +197,19 @@ impl Job for OsJob {
         self.child.kill()
     }
 
-    fn wait(self) -> Result<Status, (OsJob, WaitFault)> {
-        match self.wait_for_signal() {
-            Ok((status, _)) => Ok(status),
-            Err(refused) => Err(refused),
+    fn process(&self) -> Option<u32> {
+        self.child.number()
+    }
+
+    fn wait(mut self) -> Result<Exit, (OsJob, WaitFault)> {
+        // a program that waits for input could not end
+        drop(self.ends.take());
+        match self.child.wait() {
+            Ok(exit) => {
+                self.abandon();
+                Ok(exit)
+            }
+            Err(fault) => Err((self, fault)),
         }
     }
 

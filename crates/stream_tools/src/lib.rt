@@ -22,7 +22,6 @@ pub mod tools;
 pub use between::{Between, BetweenFault, Lane, PumpEnds, RunEnd, run_between};
 pub use filter::{FilterFault, add_returns, delete_returns, run_filter};
 pub use launcher::{OsJob, OsLauncher};
-pub use process::NotStarted;
 pub use search::SearchPath;
 pub use shared::SharedWriter;
 pub use tools::{run_fixcrio, run_recordio};

@@ -6,7 +6,7 @@ ghost use Rattle.child_jobs.specs.declared.outcome.Status.TheVariants.{Code, Sig
 ghost use Rattle.stream_tools.specs.Starts.{told_of};
 
 use crate::search::{SearchPath, put_path};
-use child_jobs::{Environment, Program, StartFault, Status, WaitFault};
+use child_jobs::{Environment, Exit, NotStarted, Program, StartFault, Status, WaitFault};
 use std::alloc::{AllocError, Global};
 use std::io::{Error, ErrorKind};
 use std::os::fd::RawFd;
@@ -19,35 +19,16 @@ pub struct ChildProcess {
     number: i32,
     // whether it was waited for, by this value or by other code, so that its number may be another's
     gone: bool,
-    // the signal that ended it, once it was waited for
-    signal: Option<u32>,
 }
 
-/// Why a program was not started: what is told of it, and the system's number of its error (`errno`), where the system refused it.
-#[derive(Clone, Copy)]
-pub struct NotStarted {
-    /// What is told.
-    pub fault: StartFault,
-    /// The number of the error.
-    pub error: Option<i32>,
-}
-
-impl NotStarted {
-    /// By an error of the system.
-    pub(crate) fn by(error: &Error) -> NotStarted
-        ensures fault { result.fault ≡ told_of (error_kind error.now) }
-        ensures error { result.error ≡ raw_os_error error.now }
-    {
-        NotStarted {
-            fault: start_fault(error),
-            error: error.raw_os_error(),
-        }
-    }
-}
-
-impl From<StartFault> for NotStarted {
-    fn from(fault: StartFault) -> NotStarted {
-        NotStarted { fault, error: None }
+/// Why a program was not started, by an error of the system.
+pub(crate) fn not_started(error: &Error) -> NotStarted
+    ensures fault { result.fault ≡ told_of (error_kind error.now) }
+    ensures error { result.error ≡ raw_os_error error.now }
+{
+    NotStarted {
+        fault: start_fault(error),
+        error: error.raw_os_error(),
     }
 }
 
@@ -80,7 +61,7 @@ pub fn start_process(
     };
     let name = program.path().as_bytes();
     if name.is_empty() || name.contains(&b'/') {
-        return start.at(name).map_err(|error| NotStarted::by(&error));
+        return start.at(name).map_err(|error| not_started(&error));
     }
     start.along(alloc, search, name)
 }
@@ -94,7 +75,7 @@ impl Start {
         name: &[u8],
     ) -> Result<ChildProcess, NotStarted> {
         let mut path = Vec::new(alloc);
-        let mut missed = NotStarted::by(&Error::from_raw_os_error(libc::ENOENT));
+        let mut missed = not_started(&Error::from_raw_os_error(libc::ENOENT));
         for folder in search.folders() {
             if put_path(&mut path, folder, name).is_err() {
                 return Err(NotStarted::from(StartFault::OutOfMemory));
@@ -103,8 +84,8 @@ impl Start {
                 Ok(child) => return Ok(child),
                 Err(error) => match error.kind() {
                     ErrorKind::NotFound | ErrorKind::NotADirectory => {}
-                    ErrorKind::PermissionDenied => missed = NotStarted::by(&error),
-                    _ => return Err(NotStarted::by(&error)),
+                    ErrorKind::PermissionDenied => missed = not_started(&error),
+                    _ => return Err(not_started(&error)),
                 },
             }
         }
@@ -131,7 +112,6 @@ impl Start {
         Ok(ChildProcess {
             number,
             gone: false,
-            signal: None,
         })
     }
 }
@@ -216,19 +196,14 @@ impl ChildProcess {
         u32::try_from(self.number).ok()
     }
 
-    /// The signal that ended the child, once it was waited for and where one did.
-    pub fn signal(&self) -> Option<u32> {
-        self.signal
-    }
-
-    /// Waits until the child has exited or was killed, and tells which. One that is stopped is waited for, until it goes on and ends.
+    /// Waits until the child has exited or was killed, and tells which, with the signal. One that is stopped is waited for, until it goes on and ends.
     ///
     /// # Errors
     /// `Failed` where the system refused it, as where other code has waited for the child; `OutOfMemory`.
-    pub fn wait(&mut self) -> Result<Status, WaitFault> {
+    pub fn wait(&mut self) -> Result<Exit, WaitFault> {
         for _ in 0..u64::MAX {
             match self.wait_once() {
-                Ok(Some(status)) => return Ok(status),
+                Ok(Some(exit)) => return Ok(exit),
                 Ok(None) => {}
                 Err(error) if error.kind() == ErrorKind::Interrupted => {}
                 Err(error) => return Err(wait_fault(&error)),
@@ -238,7 +213,7 @@ impl ChildProcess {
     }
 
     // Waits for the next that the system tells of the child.
-    fn wait_once(&mut self) -> Result<Option<Status>, Error> {
+    fn wait_once(&mut self) -> Result<Option<Exit>, Error> {
         if self.gone || self.number <= 0 {
             return Err(Error::from_raw_os_error(libc::ECHILD));
         }
@@ -249,10 +224,10 @@ impl ChildProcess {
             return Err(Error::from_raw_os_error(fault));
         }
         let ended = ExitStatus::from_raw(bits);
+        let signal = ended.signal().and_then(|signal| u32::try_from(signal).ok());
         let status = status_of(ended);
         self.gone = status.is_some();
-        self.signal = ended.signal().and_then(|signal| u32::try_from(signal).ok());
-        Ok(status)
+        Ok(status.map(|status| Exit { status, signal }))
     }
 
     /// Ends the child by force.

@@ -2,24 +2,12 @@
 use child_jobs::Local;
 use std::io::{Read, Write};
 use std::time::Duration;
-use thiserror::Error;
 
-/// Why no connection was given.
-#[derive(Clone, Copy, PartialEq, Eq, Debug, Error)]
-pub enum AcceptFault {
-    /// There was no descriptor or no memory for it. The end of another connection may help.
-    #[error("too many open files")]
-    NoRoom,
-    /// Anything else.
-    #[error("accept fault")]
-    Other,
-}
-
-/// An error of accepting.
-#[derive(Clone, Copy, PartialEq, Eq)]
+/// An error of accepting: no connection was given.
+#[derive(Clone, Copy)]
 pub struct AcceptError {
-    /// Why no connection was given.
-    pub fault: AcceptFault,
+    /// Whether there was no descriptor or no memory for one. The end of another connection may help.
+    pub lacks_room: bool,
     /// The system's number of the error (`errno`), if it has one.
     pub number: Option<i32>,
 }
@@ -31,7 +19,7 @@ pub trait Shut {
 }
 
 /// How long the server waits for a client that reads nothing, once nobody holds its program's output any more.
-#[derive(Clone, Copy, PartialEq, Eq, Debug)]
+#[derive(Clone, Copy)]
 pub struct Patience {
     /// So long without a byte.
     pub idle: Duration,

@@ -1,9 +1,9 @@
 //! Where connections are let in, and what serves them.
-ghost use Rattle.std.specs.Prelude.{◌≡◌, ℕ, IfOk, IfErr, Bool, false, IsTrue};
+ghost use Rattle.std.specs.Prelude.{◌≡◌, ℕ, Bool, false, IsTrue};
 ghost use Rattle.tcp_connections.specs.Admissions.{LetsIn, OnSpent};
 
 /// How a server ended.
-#[derive(Clone, Copy, PartialEq, Eq, Debug)]
+#[derive(Clone, Copy, Debug)]
 pub enum ServeEnd {
     /// It let in as many connections as it was to serve.
     Count,
@@ -69,13 +69,6 @@ pub trait Serving<T> {
     /// Evidence that a connection is over: only its end makes one.
     type Over: Send + Drop;
 
-    /// Which connection it is, by the serial number: one that was let in, one whose program runs, and one that is over.
-    ghost of_work: { T → ℕ };
-
-    ghost of_alive: { Self.Alive → ℕ };
-
-    ghost of_over: { Self.Over → ℕ };
-
     /// Whether a connection that is over was retired.
     ghost retired: { Self.Over → Bool };
 
@@ -87,16 +80,13 @@ pub trait Serving<T> {
     ///
     /// # Errors
     /// The connection is over.
-    fn begin(&self, work: T) -> Result<(Option<Self::Upward>, Self::Alive), Self::Over>
-        ensures goes_on { IfOk result (λ begun. of_alive begun.1 ≡ of_work work) }
-        ensures over { IfErr result (λ end. of_over end ≡ of_work work) };
+    fn begin(&self, work: T) -> Result<(Option<Self::Upward>, Self::Alive), Self::Over>;
 
     /// Passes on what the client sends, to its end.
     fn pass_up(&self, upward: Self::Upward);
 
     /// Serves a connection whose program runs to its end.
-    fn finish(&self, alive: Self::Alive) -> Self::Over
-        ensures over { of_over result ≡ of_alive alive };
+    fn finish(&self, alive: Self::Alive) -> Self::Over;
 
     /// Whether a connection that is over was retired: its place is never free again.
     fn is_retired(&self, over: &Self::Over) -> bool

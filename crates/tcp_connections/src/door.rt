@@ -128,6 +128,7 @@ impl<Q: Admission> Door<Q> {
     pub fn admit(&mut self, came: Q::Came) -> Option<Q::Work>
         requires open { self.old.end ≡ None }
         ensures anew { self.new.errors.count ≡ 0 }
+        ensures last { self.new.errors.last ≡ self.old.errors.last }
     {
         self.errors.end();
         match self.admission.admit(came) {
@@ -155,6 +156,7 @@ impl<Q: Admission> Door<Q> {
     /// The pause after an error for want of room.
     pub fn next_pause(&mut self) -> Duration
         ensures same { self.new.errors.count ≡ self.old.errors.count }
+        ensures last { self.new.errors.last ≡ self.old.errors.last }
     {
         self.errors.pause.next()
     }
@@ -162,6 +164,7 @@ impl<Q: Admission> Door<Q> {
     /// Counts a fault of accepting: the last of a hundred ends the server.
     pub fn count_fault(&mut self)
         ensures same { self.new.errors.count ≡ self.old.errors.count }
+        ensures last { self.new.errors.last ≡ self.old.errors.last }
     {
         if self.errors.faults < self.errors.count {
             self.errors.faults += 1;
@@ -173,7 +176,7 @@ impl<Q: Admission> Door<Q> {
 
     /// Ends the server if all places are retired.
     pub fn look_for_places(&mut self)
-        ensures same { self.new.errors.count ≡ self.old.errors.count }
+        ensures same { self.new.errors ≡ self.old.errors }
     {
         if !self.is_over() && !self.admission.has_places() {
             self.end = Some(ServeEnd::NoPlaces);
@@ -188,6 +191,7 @@ impl<Q: Admission> Door<Q> {
     /// How the server ended, its admission, and the errors of accepting that came last.
     pub fn into_end(self, count: Option<u32>) -> (ServeEnd, Q, Errors)
         ensures served { IsServed result.0 count 0 (Q.let_in result.1) }
+        ensures errors { result.2 ≡ self.errors }
         ensures faults { result.0 ≡ AcceptFaults → result.2.count ≡ 100 }
         ensures places { result.0 ≡ NoPlaces → IsTrue (Q.all_retired result.1) }
         ensures spent { result.0 ≡ Spent → IsTrue (Q.is_spent result.1) }

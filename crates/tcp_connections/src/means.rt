@@ -3,9 +3,8 @@ use crate::supply::Supply;
 use std::sync::{Condvar, CondvarTimeouts, Mutex, MutexGuard, Wait};
 use std::time::{Clock, Duration};
 
-/// How many workers may stay with their connections at once. The stack of each is larger than that of a keeper, so this
-/// is for connections that end soon.
-const STAYING: u64 = 4;
+/// Once so many connections are served, another one is one of many.
+const MANY: u64 = 32;
 
 /// What there is for workers and their connections. A worker is at the door while it waits for a connection, or for
 /// what one takes.
@@ -24,10 +23,9 @@ pub(crate) struct Means {
 // What workers and connections have.
 #[derive(Clone, Copy)]
 struct Held {
-    // how many workers there are; how many of them are at the door, and how many stay with their connections
+    // how many workers there are, and how many of them are at the door
     workers: u64,
     at_door: u64,
-    staying: u64,
     // how many connections are alive, including those that are waited for; how many of these have no child yet, how
     // many are waited for, and how many are retired. What makes room, or shows that there is some, adds one to
     // `changes`
@@ -43,21 +41,69 @@ struct Held {
     is_over: bool,
 }
 
+/// What a connection takes: its room, and its descriptors. A worker has it before it accepts one, and it is given back
+/// once that one is over.
+pub(crate) struct Permit {
+    descriptors: u64,
+    // whether the connection has no child yet
+    begins: bool,
+}
+
+/// What whoever makes workers has to do.
+#[derive(Clone, Copy)]
+pub(crate) enum Want {
+    /// One more is wanted.
+    Worker,
+    /// All connections are retired, so nobody can be served any more.
+    NoPlaces,
+    /// Nobody is let in any more.
+    End,
+}
+
 impl Held {
-    // Whether a connection is served.
-    fn is_any_served(&self) -> bool {
-        self.alive > self.awaited.saturating_add(self.retired)
+    // How many connections are served.
+    fn served(&self) -> u64 {
+        self.alive
+            .saturating_sub(self.awaited.saturating_add(self.retired))
     }
 
-    // Whether one more worker is wanted, if there may be this many.
-    fn wants_one(&self, most: u64) -> bool {
-        self.at_door == 0 && self.workers < most && self.left != Some(0)
+    // What whoever makes workers has to do, if there may be this many; `None` while it waits.
+    fn want(&self, most: u64) -> Option<Want> {
+        if self.is_over {
+            return Some(Want::End);
+        }
+        if self.retired >= most {
+            return Some(Want::NoPlaces);
+        }
+        if self.at_door == 0 && self.workers < most && self.left != Some(0) {
+            return Some(Want::Worker);
+        }
+        None
     }
 
-    // A connection that took so many descriptors to begin has none of them any more.
-    fn stop_beginning(&mut self, descriptors: u64) {
-        self.beginning = self.beginning.saturating_sub(1);
+    // Takes what a connection takes that is waited for.
+    fn take(&mut self, descriptors: u64) -> Permit {
+        self.alive = self.alive.saturating_add(1);
+        self.beginning = self.beginning.saturating_add(1);
+        self.awaited = self.awaited.saturating_add(1);
+        self.descriptors = self.descriptors.saturating_sub(descriptors);
+        self.left = self.left.map(|left| left.saturating_sub(1));
+        Permit {
+            descriptors,
+            begins: true,
+        }
+    }
+
+    // Takes back what a connection has of it, but for its room.
+    fn take_back(&mut self, permit: Permit) {
+        let Permit {
+            descriptors,
+            begins,
+        } = permit;
         self.descriptors = self.descriptors.saturating_add(descriptors);
+        if begins {
+            self.beginning = self.beginning.saturating_sub(1);
+        }
     }
 
     // A connection is over, or retired: then its room is never free again.
@@ -71,17 +117,6 @@ impl Held {
     }
 }
 
-/// What a worker does that wants a connection.
-#[derive(Clone, Copy)]
-pub(crate) enum Next {
-    /// It accepts one, and has what that takes.
-    Accept,
-    /// It accepts none, since all places are retired.
-    NoPlaces,
-    /// It ends, since nobody is let in any more.
-    End,
-}
-
 impl Means {
     /// All of it is free, for at most `most` connections at once and `count` in all. There are no workers yet.
     pub fn new(supply: Supply, most: u64, count: Option<u32>) -> Means {
@@ -91,7 +126,6 @@ impl Means {
             held: Mutex::new(Held {
                 workers: 0,
                 at_door: 0,
-                staying: 0,
                 alive: 0,
                 beginning: 0,
                 awaited: 0,
@@ -124,45 +158,30 @@ impl Means {
         held.at_door = held.at_door.saturating_add(1);
     }
 
-    /// A worker ends that is not at the door.
-    pub fn remove<R: Wait>(&self, rt: &R) {
-        let mut held = self.held.lock(rt);
-        held.workers = held.workers.saturating_sub(1);
-        self.ask_if_wanted(held);
-    }
-
-    /// A worker at the door waits until there is room for one more connection and what it takes, and takes both.
-    pub fn take<R: Wait>(&self, rt: &R) -> Next {
+    /// Waits at the door until there is what one more connection takes, and takes it. `None` once nobody is let in any
+    /// more.
+    pub fn take<R: Wait>(&self, rt: &R) -> Option<Permit> {
         let (most, to_begin, at_once) = (self.most, self.supply.to_begin, self.supply.at_once());
         let mut held = self.freed.wait_while(rt, self.held.lock(rt), |held| {
             !held.is_over
-                && held.retired < most
                 && (held.alive >= most
                     || held.descriptors < to_begin
                     || held.beginning >= at_once
                     || held.left == Some(0))
         });
         if held.is_over {
-            return Next::End;
+            return None;
         }
-        if held.retired >= most {
-            return Next::NoPlaces;
-        }
-        held.alive = held.alive.saturating_add(1);
-        held.beginning = held.beginning.saturating_add(1);
-        held.awaited = held.awaited.saturating_add(1);
-        held.descriptors = held.descriptors.saturating_sub(to_begin);
-        held.left = held.left.map(|left| left.saturating_sub(1));
-        Next::Accept
+        Some(held.take(to_begin))
     }
 
     /// The connection that was waited for did not come, or was not let in. Its worker is at the door still.
-    pub fn give_back<R: Wait>(&self, rt: &R) {
+    pub fn give_back<R: Wait>(&self, rt: &R, permit: Permit) {
         let mut held = self.held.lock(rt);
         held.awaited = held.awaited.saturating_sub(1);
         held.left = held.left.map(|left| left.saturating_add(1));
-        held.stop_beginning(self.supply.to_begin);
         held.alive = held.alive.saturating_sub(1);
+        held.take_back(permit);
         self.free(held);
     }
 
@@ -173,29 +192,29 @@ impl Means {
         held.awaited = held.awaited.saturating_sub(1);
         held.at_door = held.at_door.saturating_sub(1);
         held.changes = held.changes.wrapping_add(1);
-        self.ask_if_wanted(held);
-        self.freed.notify_all();
-    }
-
-    /// The child of a connection runs: what it took only for its start is free again.
-    pub fn began<R: Wait>(&self, rt: &R) {
-        let mut held = self.held.lock(rt);
-        held.stop_beginning(self.supply.to_begin.saturating_sub(self.supply.to_go_on));
         self.free(held);
     }
 
-    /// A connection is over before its child ran, or retired.
-    pub fn failed<R: Wait>(&self, rt: &R, is_retired: bool) {
+    /// The child of a connection runs: what it took only for its start is free again. Whether it is one of many is told
+    /// beside what it has still.
+    pub fn began<R: Wait>(&self, rt: &R, permit: Permit) -> (Permit, bool) {
+        let descriptors = permit.descriptors.min(self.supply.to_go_on);
         let mut held = self.held.lock(rt);
-        held.stop_beginning(self.supply.to_begin);
-        held.end(is_retired);
+        held.take_back(permit);
+        held.descriptors = held.descriptors.saturating_sub(descriptors);
+        let is_one_of_many = held.served() > MANY;
         self.free(held);
+        let permit = Permit {
+            descriptors,
+            begins: false,
+        };
+        (permit, is_one_of_many)
     }
 
-    /// A connection whose child ran is over, or retired.
-    pub fn ended<R: Wait>(&self, rt: &R, is_retired: bool) {
+    /// A connection is over, or retired.
+    pub fn ended<R: Wait>(&self, rt: &R, permit: Permit, is_retired: bool) {
         let mut held = self.held.lock(rt);
-        held.descriptors = held.descriptors.saturating_add(self.supply.to_go_on);
+        held.take_back(permit);
         held.end(is_retired);
         self.free(held);
     }
@@ -205,50 +224,33 @@ impl Means {
         let mut held = self.held.lock(rt);
         held.is_over = true;
         self.free(held);
-        self.wanted.notify_all();
     }
 
-    // Lets the lock go, and wakes workers that wait.
+    // Lets the lock go, wakes those who wait for a change, and whoever makes workers if there is something to do.
     fn free(&self, held: MutexGuard<'_, Held>) {
+        let is_wanted = held.want(self.most).is_some();
         drop(held);
         self.freed.notify_all();
-    }
-
-    // Lets the lock go, and wakes whoever makes workers, if one more is wanted.
-    fn ask_if_wanted(&self, held: MutexGuard<'_, Held>) {
-        let is_wanted = held.wants_one(self.most);
-        drop(held);
         if is_wanted {
             self.wanted.notify_all();
         }
     }
 
-    /// Whether a worker may stay with its connection to the end: another one is at the door, and few others stay. It
-    /// then calls `stop_staying` afterwards.
-    pub fn stay<R: Wait>(&self, rt: &R) -> bool {
-        let mut held = self.held.lock(rt);
-        let may_stay = held.at_door > 0 && held.staying < STAYING;
-        if may_stay {
-            held.staying = held.staying.saturating_add(1);
-        }
-        may_stay
-    }
-
-    /// A worker stays no longer.
-    pub fn stop_staying<R: Wait>(&self, rt: &R) {
-        let mut held = self.held.lock(rt);
-        held.staying = held.staying.saturating_sub(1);
-    }
-
-    /// Waits until one more worker is wanted; `false` if nobody is let in any more.
-    pub fn wait_for_want<R: Wait>(&self, rt: &R) -> bool {
-        let most = self.most;
-        let held = self.wanted.wait_while(
-            rt,
-            self.held.lock(rt),
-            |held| !held.is_over && !held.wants_one(most),
+    /// Waits until no connection is alive that is not retired.
+    pub fn wait_for_ends<R: Wait>(&self, rt: &R) {
+        drop(
+            self.freed
+                .wait_while(rt, self.held.lock(rt), |held| held.alive > held.retired),
         );
-        !held.is_over
+    }
+
+    /// Waits until whoever makes workers has something to do.
+    pub fn wait_for_want<R: Wait>(&self, rt: &R) -> Want {
+        let most = self.most;
+        let held = self
+            .wanted
+            .wait_while(rt, self.held.lock(rt), |held| held.want(most).is_none());
+        held.want(most).unwrap_or(Want::End)
     }
 
     /// Waits before the next try to make a worker, but no longer once nobody is let in any more.
@@ -289,7 +291,7 @@ impl Means {
     /// connection is served, it answers `false` at once.
     pub fn wait_for_change<R: Wait + Clock>(&self, rt: &R, pause: Duration) -> bool {
         let held = self.held.lock(rt);
-        if !held.is_any_served() {
+        if held.served() == 0 {
             return false;
         }
         let before = held.changes;

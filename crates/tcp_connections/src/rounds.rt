@@ -3,7 +3,7 @@ ghost use Rattle.std.specs.Prelude.{◌≡◌, IfOk, IfErr, OnErr, true};
 ghost use Rattle.child_jobs.specs.Runs.{IsSameRun, job_of, place_of};
 ghost use Rattle.tcp_connections.specs.Rounds.{AllFail, IsReady, OneEnds, RoundEnds, RoundFails, rounds};
 
-use child_jobs::{Job, Place, Running, Status, finish};
+use child_jobs::{Exit, Job, Place, Running, finish};
 use std::sync::ledger::Ledger;
 
 /// Waits for a child in up to three rounds. It is killed before the second and the third, and under `by_force` before
@@ -14,10 +14,10 @@ use std::sync::ledger::Ledger;
 pub fn wait_in_rounds<L: Ledger, C: Job>(
     running: Running<L, C>,
     by_force: bool,
-) -> Result<(Place<L>, Status), Running<L, C>>
+) -> Result<(Place<L>, Exit), Running<L, C>>
     ensures place { IfOk result (λ ended. ended.0 ≡ place_of running) }
     ensures told { IfOk result (λ ended.
-        OneEnds C.killed C.refused_wait C.ended (rounds by_force) (job_of running) ended.1) }
+        OneEnds C.killed C.refused_wait C.ended (rounds by_force) (job_of running) ended.1.status) }
     ensures failed { OnErr result (AllFail C.killed C.refused_wait (rounds by_force) (job_of running)) }
     ensures same { IfErr result (IsSameRun C.program C.environment running) }
 {
@@ -34,9 +34,9 @@ pub fn wait_in_rounds<L: Ledger, C: Job>(
 fn wait_once<L: Ledger, C: Job>(
     running: Running<L, C>,
     by_force: bool,
-) -> Result<(Place<L>, Status), Running<L, C>>
+) -> Result<(Place<L>, Exit), Running<L, C>>
     ensures place { IfOk result (λ ended. ended.0 ≡ place_of running) }
-    ensures told { IfOk result (λ ended. RoundEnds C.killed C.ended by_force (job_of running) ended.1) }
+    ensures told { IfOk result (λ ended. RoundEnds C.killed C.ended by_force (job_of running) ended.1.status) }
     ensures failed { IfErr result (λ left. RoundFails C.killed C.refused_wait by_force (job_of running) (job_of left)) }
     ensures same { IfErr result (IsSameRun C.program C.environment running) }
 {

@@ -2,11 +2,12 @@
 ghost use Rattle.std.specs.Prelude.{◌≡◌};
 ghost use Rattle.tcp_connections.specs.Admissions.{suffices};
 
-use std::sync::{Condvar, Mutex, Wait};
+use crate::handover::Handover;
+use std::sync::Wait;
 
 /// What the system gives a server for its connections, and what each of them takes. The server takes a connection only
 /// once there is all that it may take.
-#[derive(Clone, Copy, PartialEq, Eq, Debug)]
+#[derive(Clone, Copy)]
 pub struct Supply {
     /// How many descriptors the process may still open.
     pub descriptors: u64,
@@ -19,7 +20,7 @@ pub struct Supply {
 }
 
 /// What connections take of limited memory, in bytes.
-#[derive(Clone, Copy, PartialEq, Eq, Debug)]
+#[derive(Clone, Copy)]
 pub struct Memory {
     /// How many connections may be at once whose child does not run yet.
     pub at_once: u64,
@@ -60,35 +61,24 @@ impl Supply {
 /// processes before it makes a thread. If memory is low, there is no reserve from the start.
 #[derive(Drop)]
 pub struct Reserve {
-    is_gone: Mutex<bool>,
-    changed: Condvar,
+    pub(crate) end: Handover<()>,
 }
 
 impl Reserve {
     /// A reserve that is not given back yet.
     pub fn new() -> Reserve {
         Reserve {
-            is_gone: Mutex::new(false),
-            changed: Condvar::new(),
+            end: Handover::new(),
         }
     }
 
     /// Gives it back: its thread ends.
     pub fn give_back<R: Wait>(&self, rt: &R) {
-        *self.is_gone.lock(rt) = true;
-        self.changed.notify_all();
+        self.end.close(rt);
     }
 
     /// Whether it was given back.
     pub fn is_gone<R: Wait>(&self, rt: &R) -> bool {
-        *self.is_gone.lock(rt)
-    }
-
-    // Waits until it is given back.
-    pub(crate) fn wait<R: Wait>(&self, rt: &R) {
-        drop(
-            self.changed
-                .wait_while(rt, self.is_gone.lock(rt), |is_gone| !*is_gone),
-        );
+        self.end.is_closed(rt)
     }
 }

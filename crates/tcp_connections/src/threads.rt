@@ -1,9 +1,9 @@
 //! The threads of connections.
 ghost use Rattle.std.specs.Thread.{IsSync};
 
-use crate::mailbox::Mailbox;
-use crate::supply::Reserve;
-use std::sync::Wait;
+use crate::handover::Handover;
+use std::alloc::Global;
+use std::sync::{Arc, Wait};
 use std::thread;
 use std::thread::{Builder, Scope, Threads};
 
@@ -16,11 +16,14 @@ pub(crate) fn connection_thread() -> Builder {
     Builder::new().stack_size(STACK)
 }
 
-/// Starts the thread that keeps a process in reserve. Whether the system had one.
-pub(crate) fn start_reserve<'a: 's, 's, E, R>(
+/// What gives the stream from a client to a thread that passes it on, and ends then.
+pub(crate) type Second<U> = Arc<Handover<U>, Global>;
+
+/// Starts a thread that only waits until `end` is closed. Whether the system had one.
+pub(crate) fn start_waiting<'a: 's, 's, E, R>(
     scope: &Scope<'s, E>,
     rt: &'a R,
-    reserve: &'a Reserve,
+    end: &'a Handover<()>,
 ) -> bool
 where
     R: Wait + Sync + 's,
@@ -30,7 +33,7 @@ where
             scope,
             move ||
                 requires { IsSync R.row }
-            { reserve.wait(rt) },
+            { drop(end.take(rt)) },
         )
         .is_ok()
 }
@@ -38,8 +41,8 @@ where
 /// Whether this many processes could be made now. The system counts threads with processes, so this many threads are
 /// made, and end at once.
 pub(crate) fn has_processes<R: Threads + Wait + Sync>(rt: &R, count: u64) -> bool {
-    let leave = Mailbox::new();
-    let leave = &leave;
+    let end = Handover::new();
+    let end = &end;
     thread::scope(
         thread::scope_env(),
         rt,
@@ -48,27 +51,12 @@ pub(crate) fn has_processes<R: Threads + Wait + Sync>(rt: &R, count: u64) -> boo
         {
             let mut made = 0u64;
             for _ in 0..count {
-                if start_idle(scope, rt, leave) {
+                if start_waiting(scope, rt, end) {
                     made = made.saturating_add(1);
                 }
             }
-            leave.close(rt);
+            end.close(rt);
             made == count
         },
     )
-}
-
-// Starts a thread that ends once `leave` is closed. Whether the system had one.
-fn start_idle<'a: 's, 's, E, R>(scope: &Scope<'s, E>, rt: &'a R, leave: &'a Mailbox<()>) -> bool
-where
-    R: Wait + Sync + 's,
-{
-    connection_thread()
-        .spawn_scoped(
-            scope,
-            move ||
-                requires { IsSync R.row }
-            { drop(leave.take(rt)) },
-        )
-        .is_ok()
 }

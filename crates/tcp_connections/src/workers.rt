@@ -1,18 +1,17 @@
-//! Workers: each lets one connection after another in, and serves it up to the start of its program and on to its end.
+//! Workers: each lets one connection after another in, and serves it up to the start of its program or to its end.
 ghost use Rattle.std.specs.Prelude.{◌≡◌, IsTrue};
 ghost use Rattle.std.specs.Thread.{IsSend, IsSync};
 ghost use Rattle.tcp_connections.specs.Admissions.{FailedToAccept, IsServed, suffices};
 ghost use Rattle.tcp_connections.specs.declared.admission.ServeEnd.TheVariants.{AcceptFaults, NoPlaces, Spent};
 
-use crate::accepting::{AcceptError, AcceptFault, Accepted, Acceptor};
+use crate::accepting::{AcceptError, Accepted, Acceptor};
 use crate::admission::{Admission, ServeEnd, Serving};
 use crate::door::{Door, Errors, Pause};
 use crate::going_on::GoingOn;
-use crate::helpers::{AtWork, Helpers, Idle};
-use crate::mailbox::Mailbox;
-use crate::means::{Means, Next};
+use crate::handover::Handover;
+use crate::means::{Means, Permit, Want};
 use crate::supply::{Reserve, Supply};
-use crate::threads::{connection_thread, has_processes, start_reserve};
+use crate::threads::{Second, connection_thread, has_processes, start_waiting};
 use std::alloc::Global;
 use std::sync::atomic::{AtomicUsize, Ordering};
 use std::sync::{Arc, Mutex, RwLock, Wait};
@@ -33,11 +32,16 @@ const MORE: usize = 8 * 1024;
 /// What a thread takes of address space, in bytes: its stack, and what guards it.
 const THREAD: usize = 192 * 1024;
 
+/// What came of a connection that was accepted, up to the start of its program; `None` if it was not let in.
+type Begun<V, T> = Option<
+    Result<(Option<<V as Serving<T>>::Upward>, <V as Serving<T>>::Alive), <V as Serving<T>>::Over>,
+>;
+
 /// Lets connections of `acceptor` in until `count` were let in or no more can be. Then it drops the acceptor, waits
 /// until all that were let in are over, and gives `admission` back with the errors of accepting that came last. At most
-/// `most` connections are alive at once. Each worker accepts one, lets it in, and serves it until its program runs.
-/// Then the worker or a keeper goes on with it. A second thread passes on what the client sends, if `server` does that.
-/// This thread makes one more worker whenever none waits for a connection.
+/// `most` connections are alive at once. Each worker accepts one, lets it in, and serves it until its program runs. It
+/// goes on with few itself, and with one of many a thread does that ends with it. A second thread passes on what the
+/// client sends, if `server` does that. This thread makes one more worker whenever none waits for a connection.
 ///
 /// The count begins at 0, since nobody was let in by `admission` before. By faults of accepting it ends only if the
 /// last hundred answers of the acceptor were errors, or if `supply` doesn't suffice for one connection. For want of
@@ -68,7 +72,7 @@ where
         drop(acceptor);
         return (ServeEnd::AcceptFaults, admission, Errors::none());
     }
-    let (means, seconds) = (Means::new(supply, most, count), Helpers::new(alloc));
+    let means = Means::new(supply, most, count);
     let workers = Workers {
         rt,
         alloc,
@@ -76,30 +80,21 @@ where
         acceptor: RwLock::new(Some(acceptor)),
         door: Mutex::new(Door::new(admission, count)),
         scarce: Mutex::new(()),
-        arrived: Mailbox::new(),
-        wanted: Mailbox::new(),
-        seconds: &seconds,
-        keepers: Helpers::new(alloc),
+        came_up: Handover::new(),
         supply,
         means: &means,
         found: AtomicUsize::new(0),
         reserve,
     };
     workers.run();
-    let Workers {
-        acceptor,
-        door,
-        keepers,
-        ..
-    } = workers;
+    let Workers { acceptor, door, .. } = workers;
     drop(acceptor);
-    keepers.discard();
     door.into_inner().into_end(count)
 }
 
 /// What the workers share.
 #[derive(Drop)]
-struct Workers<'a, R: Wait, V: Serving<Q::Work>, A: Acceptor, Q: Admission> {
+struct Workers<'a, R, V, A, Q: Admission> {
     rt: &'a R,
     alloc: Global,
     server: &'a V,
@@ -108,12 +103,8 @@ struct Workers<'a, R: Wait, V: Serving<Q::Work>, A: Acceptor, Q: Admission> {
     door: Mutex<Door<Q>>,
     // whoever has it waits until there may be descriptors or memory for a connection again
     scarce: Mutex<()>,
-    // whether the worker that was made is there, with its second thread if it needs one; and then, whether it stays
-    arrived: Mailbox<bool>,
-    wanted: Mailbox<bool>,
-    // the idle second threads, and the idle keepers
-    seconds: &'a Helpers<V::Upward>,
-    keepers: Helpers<GoingOn<'a, R, V, Q::Work>>,
+    // whether the worker that was made stays
+    came_up: Handover<bool>,
     supply: Supply,
     means: &'a Means,
     // how many bytes the last look for memory found, if memory is limited
@@ -133,7 +124,7 @@ where
         self.supply.memory.is_some()
     }
 
-    // Whether memory is not limited, and threads were never scarce: then a connection may have more than its worker.
+    // Whether memory is not limited, and processes were never scarce: then a connection may have a thread of its own.
     fn has_plenty(&self) -> bool {
         !self.is_limited() && !self.reserve.is_gone(self.rt)
     }
@@ -162,42 +153,21 @@ where
         }
     }
 
-    // Waits for the next connection, and lets it in. `None` once no more come.
-    fn next_connection(&self) -> Option<Q::Work> {
-        for _ in self.rt.forever() {
-            match self.means.take(self.rt) {
-                Next::Accept => {}
-                Next::NoPlaces => {
-                    self.door.lock(self.rt).look_for_places();
-                    self.end();
-                    break;
-                }
-                Next::End => break,
-            }
-            if let Some(work) = self.accept() {
-                return Some(work);
-            }
-        }
-        None
+    // Ends the server, since all places are retired.
+    fn end_without_places(&self) {
+        self.door.lock(self.rt).look_for_places();
+        self.end();
     }
 
-    // Accepts a connection, and lets it in. `None` if none came, or it was refused.
-    fn accept(&self) -> Option<Q::Work> {
-        let answer = match &*self.acceptor.read(self.rt) {
-            Some(acceptor) => acceptor.accept(),
-            None => {
-                self.means.give_back(self.rt);
-                return None;
-            }
-        };
-        match answer {
-            Ok(came) => self.admit(came),
-            Err(error) => {
-                self.means.give_back(self.rt);
-                self.pause(error);
-                None
-            }
-        }
+    // Waits for the next connection. `None` once no more come.
+    fn accept(&self) -> Option<Result<Q::Came, AcceptError>> {
+        Some(self.acceptor.read(self.rt).as_ref()?.accept())
+    }
+
+    // Lets a connection in that came, and serves it up to the start of its program. `None` if it was refused, or nobody
+    // is let in any more.
+    fn begin(&self, came: Q::Came) -> Begun<V, Q::Work> {
+        Some(self.server.begin(self.admit(came)?))
     }
 
     // Lets a connection in that came. `None` if it was refused, or nobody is let in any more.
@@ -206,15 +176,13 @@ where
         if door.is_over() {
             drop(door);
             drop(came);
-            self.means.give_back(self.rt);
             return None;
         }
         let work = door.admit(came);
         let is_over = door.is_over();
         drop(door);
-        match &work {
-            Some(_) => self.means.came(self.rt),
-            None => self.means.give_back(self.rt),
+        if work.is_some() {
+            self.means.came(self.rt);
         }
         if is_over {
             self.end();
@@ -226,7 +194,7 @@ where
     // served then, the error is none of the hundred.
     fn pause(&self, error: AcceptError) {
         self.door.lock(self.rt).note(error);
-        if error.fault == AcceptFault::NoRoom && self.wait_while_scarce() {
+        if error.lacks_room && self.wait_while_scarce() {
             return;
         }
         self.door.lock(self.rt).count_fault();
@@ -246,14 +214,13 @@ where
         was_any_served
     }
 
-    // Passes on what each client sends, one after another, until no more come.
-    fn pass_up_in_turn(&self, second: &Mailbox<V::Upward>) {
-        for _ in self.rt.forever() {
-            let Some(sent) = second.take(self.rt) else {
-                return;
-            };
-            self.server.pass_up(sent);
-            second.finish(self.rt);
+    // Passes on what a client sends, if one comes.
+    fn pass_up_one(&self, sent: &Handover<V::Upward>) {
+        self.come_up();
+        sent.finish(self.rt);
+        if let Some(upward) = sent.take(self.rt) {
+            self.server.pass_up(upward);
+            sent.finish(self.rt);
         }
     }
 
@@ -320,15 +287,13 @@ where
                     × IsSend A.row × IsSync A.row }
             {
                 if !workers.supply.has_reserve()
-                    || !start_reserve(scope, workers.rt, workers.reserve)
+                    || !start_waiting(scope, workers.rt, &workers.reserve.end)
                 {
                     workers.reserve.give_back(workers.rt);
                 }
                 workers.end_if_over();
                 workers.make_workers(scope);
                 workers.reserve.give_back(workers.rt);
-                workers.seconds.end(workers.rt);
-                workers.keepers.end(workers.rt);
             },
         );
     }
@@ -338,13 +303,15 @@ where
     fn make_workers<'s, 'e>(&'s self, scope: &'s Scope<'s, &'e ()>) {
         let (mut pause, mut left, mut is_made) = (Pause::first(), TRIES, false);
         for _ in self.rt.forever() {
-            if !self.means.wait_for_want(self.rt) {
-                return;
+            match self.means.wait_for_want(self.rt) {
+                Want::Worker => {}
+                Want::NoPlaces => {
+                    self.end_without_places();
+                    return;
+                }
+                Want::End => return,
             }
-            let beginning = self.means.hold_up(self.rt);
-            let one_more = self.make_worker(scope, beginning);
-            self.means.let_begin(self.rt);
-            if one_more {
+            if self.make_worker(scope) {
                 is_made = true;
                 pause = Pause::first();
                 continue;
@@ -358,26 +325,27 @@ where
         }
     }
 
-    // Makes a worker, if there is a thread for it and what its connection would take while this many others begin.
-    fn make_worker<'s, 'e>(&'s self, scope: &'s Scope<'s, &'e ()>, beginning: u64) -> bool {
+    // Makes a worker, if there is a thread for it and what its connection would take beside those that begin now.
+    fn make_worker<'s, 'e>(&'s self, scope: &'s Scope<'s, &'e ()>) -> bool {
+        let beginning = self.means.hold_up(self.rt);
         let workers = usize::try_from(self.means.workers(self.rt)).unwrap_or(usize::MAX);
         let workers = workers.saturating_add(1);
-        if !self.has_stacks(workers)
-            || !self.start_worker(scope)
-            || self.arrived.take(self.rt) != Some(true)
-        {
-            return false;
+        let mut stays = false;
+        if self.has_stacks(workers) && self.start_worker(scope, workers, beginning) {
+            self.came_up.finish(self.rt);
+            stays = self.came_up.take(self.rt) == Some(true);
         }
-        let stays = self.has_supplies(workers, beginning);
-        if stays {
-            self.means.add(self.rt);
-        }
-        self.wanted.hand(self.rt, stays);
+        self.means.let_begin(self.rt);
         stays
     }
 
     // Starts the thread of a worker. Whether the system had one.
-    fn start_worker<'s, 'e>(&'s self, scope: &'s Scope<'s, &'e ()>) -> bool {
+    fn start_worker<'s, 'e>(
+        &'s self,
+        scope: &'s Scope<'s, &'e ()>,
+        number: usize,
+        beginning: u64,
+    ) -> bool {
         let workers = self;
         connection_thread()
             .spawn_scoped(
@@ -385,167 +353,163 @@ where
                 move ||
                     requires { IsSync R.row × IsSync V.row × IsSend Q.row × IsSend V.Upward.row × IsSend V.Alive.row
                         × IsSend A.row × IsSync A.row }
-                { workers.come_to_work(scope) },
+                { workers.come_to_work(scope, number, beginning) },
             )
             .is_ok()
     }
 
-    // A new worker reports that it is there, and works if it is wanted. If what clients send is passed on, it needs a
-    // second thread, and ends without one.
-    fn come_to_work<'s, 'e>(&'s self, scope: &'s Scope<'s, &'e ()>) {
+    // A new worker reports whether it stays: whether it has a second thread if it needs one, and there is what the
+    // connections of so many workers take beside those that begin. If it stays, it works.
+    fn come_to_work<'s, 'e>(&'s self, scope: &'s Scope<'s, &'e ()>, number: usize, beginning: u64) {
         self.come_up();
-        let second = self.second(scope);
-        let is_whole = second.is_some() || !self.server.passes_up();
-        self.arrived.hand(self.rt, is_whole);
-        if is_whole && self.wanted.take(self.rt) == Some(true) {
-            self.work(scope, second);
-        } else if let Some(second) = second {
-            second.end(self.rt);
+        let mut second = None;
+        if self.is_whole(scope, &mut second) && self.has_supplies(number, beginning) {
+            self.means.add(self.rt);
+            self.came_up.give(self.rt, true);
+            self.work(scope, &mut second);
+        } else {
+            self.came_up.give(self.rt, false);
+        }
+        if let Some(second) = second {
+            second.close(self.rt);
         }
     }
 
-    // Starts a second thread, if the system has one.
-    fn start_second<'s, 'e>(&'s self, scope: &'s Scope<'s, &'e ()>) -> Option<AtWork<V::Upward>> {
+    // Whether a worker has a second thread, if what clients send is passed on. If it lacks one it is started.
+    fn is_whole<'s, 'e>(
+        &'s self,
+        scope: &'s Scope<'s, &'e ()>,
+        second: &mut Option<Second<V::Upward>>,
+    ) -> bool {
+        if second.is_none() && self.server.passes_up() {
+            *second = self.start_second(scope);
+            return second.is_some();
+        }
+        true
+    }
+
+    // Starts a second thread, if the system has one. If memory is limited it waits until the thread is there.
+    fn start_second<'s, 'e>(&'s self, scope: &'s Scope<'s, &'e ()>) -> Option<Second<V::Upward>> {
         let workers = self;
-        let his = Arc::new(workers.alloc, Mailbox::new()).ok()?;
-        let second = AtWork::starting(&his).ok()?;
+        let his = Arc::new(workers.alloc, Handover::new()).ok()?;
+        let sent = Arc::try_clone(&his).ok()?;
         let started = connection_thread().spawn_scoped(
             scope,
             move ||
                 requires { IsSync R.row × IsSync V.row × IsSend Q.row × IsSend V.Upward.row × IsSend V.Alive.row
                     × IsSend A.row × IsSync A.row }
-            {
-                workers.come_up();
-                his.finish(workers.rt);
-                workers.pass_up_in_turn(&his);
-            },
+            { workers.pass_up_one(&his) },
         );
         started.ok()?;
-        Some(second)
+        if self.is_limited() {
+            sent.wait(self.rt);
+        }
+        Some(sent)
     }
 
-    // Lets in and serves one connection after another, until no more come, or the worker lacks a second thread.
-    fn work<'s, 'e>(&'s self, scope: &'s Scope<'s, &'e ()>, second: Option<Idle<V::Upward>>) {
-        let mut second = second;
+    // Lets in and serves one connection after another, until no more come. Then it waits until all are over: the system
+    // may tell a program that the thread has ended which started it.
+    fn work<'s, 'e>(
+        &'s self,
+        scope: &'s Scope<'s, &'e ()>,
+        second: &mut Option<Second<V::Upward>>,
+    ) {
+        let mut pause = Pause::first();
         for _ in self.rt.forever() {
-            let Some(work) = self.next_connection() else {
+            let Some(permit) = self.means.take(self.rt) else {
                 break;
             };
-            self.serve(scope, work, &mut second);
-            if second.is_none() && self.server.passes_up() {
-                self.means.remove(self.rt);
-                return;
+            if !self.is_whole(scope, second) {
+                self.means.give_back(self.rt, permit);
+                self.means.pause(self.rt, pause.next());
+                continue;
             }
-            self.means.come_back(self.rt);
+            pause = Pause::first();
+            match self.accept() {
+                Some(Ok(came)) => self.serve(scope, permit, came, second),
+                Some(Err(error)) => {
+                    self.means.give_back(self.rt, permit);
+                    self.pause(error);
+                }
+                None => self.means.give_back(self.rt, permit),
+            }
         }
-        if let Some(second) = second {
-            second.end(self.rt);
-        }
+        self.means.wait_for_ends(self.rt);
     }
 
-    // Serves a connection up to the start of its program, and sees that somebody goes on with it. Afterwards the worker
-    // has a second thread for the next connection, if the system has one.
+    // Lets a connection in that came, serves it up to the start of its program, and sees that somebody goes on with it.
     fn serve<'s, 'e>(
         &'s self,
         scope: &'s Scope<'s, &'e ()>,
-        work: Q::Work,
-        second: &mut Option<Idle<V::Upward>>,
+        permit: Permit,
+        came: Q::Came,
+        second: &mut Option<Second<V::Upward>>,
     ) {
-        let (upward, alive) = match self.server.begin(work) {
-            Ok(begun) => begun,
-            Err(over) => {
-                self.means.failed(self.rt, self.server.is_retired(&over));
+        match self.begin(came) {
+            None => {
+                self.means.give_back(self.rt, permit);
                 return;
             }
-        };
-        self.means.began(self.rt);
-        let at_work = match upward {
-            Some(upward) => second.take().map(|second| second.lend(self.rt, upward)),
-            None => None,
-        };
+            Some(Err(over)) => self
+                .means
+                .ended(self.rt, permit, self.server.is_retired(&over)),
+            Some(Ok((upward, alive))) => {
+                let mut passes_up = None;
+                if let Some(upward) = upward {
+                    passes_up = second.take();
+                    if let Some(second) = &passes_up {
+                        second.give(self.rt, upward);
+                    }
+                }
+                self.go_on(scope, permit, alive, passes_up);
+            }
+        }
+        self.means.come_back(self.rt);
+    }
+
+    // Goes on with a connection to its end. With one of many a thread does that, if there is one, which takes far less
+    // of a stack than a worker.
+    fn go_on<'s, 'e>(
+        &'s self,
+        scope: &'s Scope<'s, &'e ()>,
+        permit: Permit,
+        alive: V::Alive,
+        second: Option<Second<V::Upward>>,
+    ) {
+        let (permit, is_one_of_many) = self.means.began(self.rt, permit);
         let going_on = GoingOn {
             rt: self.rt,
             server: self.server,
             means: self.means,
-            seconds: self.seconds,
             alive,
-            second: at_work,
+            permit,
+            second,
         };
-        self.go_on(scope, going_on);
-        if second.is_none() {
-            *second = self.second(scope);
-        }
-    }
-
-    // Goes on with a connection: this worker if it may stay, or else a keeper. If memory or threads are scarce, keepers
-    // end, and each worker goes on itself.
-    fn go_on<'s, 'e>(&'s self, scope: &'s Scope<'s, &'e ()>, going_on: GoingOn<'a, R, V, Q::Work>) {
-        if !self.has_plenty() {
-            self.keepers.end(self.rt);
-            drop(going_on);
-        } else if self.means.stay(self.rt) {
-            drop(going_on);
-            self.means.stop_staying(self.rt);
+        if is_one_of_many && self.has_plenty() {
+            self.start_ending(scope, going_on);
         } else {
-            match self.keeper(scope) {
-                Some(keeper) => keeper.give(self.rt, going_on),
-                None => drop(going_on),
-            }
+            drop(going_on);
         }
     }
 
-    // An idle keeper, or a new one. None if the system has no more.
-    fn keeper<'s, 'e>(
+    // Starts a thread that goes on with a connection. Without a thread this one does.
+    fn start_ending<'s, 'e>(
         &'s self,
         scope: &'s Scope<'s, &'e ()>,
-    ) -> Option<Idle<GoingOn<'a, R, V, Q::Work>>> {
-        match self.keepers.take(self.rt) {
-            Some(keeper) => Some(keeper),
-            None => self.start_keeper(scope),
-        }
-    }
-
-    // An idle second thread, or a new one. None if what clients send is not passed on, or the system has no more.
-    fn second<'s, 'e>(&'s self, scope: &'s Scope<'s, &'e ()>) -> Option<Idle<V::Upward>> {
-        if !self.server.passes_up() {
-            return None;
-        }
-        if let Some(second) = self.seconds.take(self.rt) {
-            return Some(second);
-        }
-        Some(self.start_second(scope)?.wait(self.rt))
-    }
-
-    // Starts a keeper, if the system has a thread for it.
-    fn start_keeper<'s, 'e>(
-        &'s self,
-        scope: &'s Scope<'s, &'e ()>,
-    ) -> Option<Idle<GoingOn<'a, R, V, Q::Work>>> {
+        going_on: GoingOn<'a, R, V, Q::Work>,
+    ) {
         let workers = self;
-        let his = Arc::new(workers.alloc, Mailbox::new()).ok()?;
-        let keeper = Idle::of(&his).ok()?;
-        let started = connection_thread().spawn_scoped(
+        let _ = connection_thread().spawn_scoped(
             scope,
             move ||
                 requires { IsSync R.row × IsSync V.row × IsSend Q.row × IsSend V.Upward.row × IsSend V.Alive.row
                     × IsSend A.row × IsSync A.row }
-            { workers.keep_in_turn(&his) },
+            { workers.end_one(going_on) },
         );
-        started.ok()?;
-        Some(keeper)
     }
 
-    // Goes on with one connection after another, until no more come.
-    fn keep_in_turn<'s>(&'s self, keeper: &'s Arc<Mailbox<GoingOn<'a, R, V, Q::Work>>, Global>) {
-        for _ in self.rt.forever() {
-            let Some(going_on) = keeper.take(self.rt) else {
-                return;
-            };
-            drop(going_on);
-            let Ok(idle) = Idle::of(keeper) else {
-                return;
-            };
-            self.keepers.give_back(self.rt, idle);
-        }
+    // Goes on with a connection to its end.
+    fn end_one(&self, going_on: GoingOn<'a, R, V, Q::Work>) {
+        drop(going_on);
     }
 }

@@ -8,8 +8,8 @@ use Rattle.child_jobs.specs.Runs.{IsSameChild}
 use Rattle.rule_lookup.specs.Peers.{Client}
 use Rattle.child_jobs.specs.declared.outcome.DropCause.{DropCause}
 use Rattle.child_jobs.specs.declared.outcome.DropCause.TheVariants as cause
+use Rattle.child_jobs.specs.declared.outcome.Exit.{Exit}
 use Rattle.child_jobs.specs.declared.outcome.StartFault.{StartFault}
-use Rattle.child_jobs.specs.declared.outcome.Status.{Status}
 use Rattle.server_events.specs.declared.event.Event.{Event}
 use Rattle.server_events.specs.declared.event.Event.TheVariants.{Dropped, Ended, Retired, StartFailed}
 use Rattle.one_connection.specs.Openings.{Opening, WasFound}
@@ -22,15 +22,15 @@ use Rattle.tcp_service.specs.Lives.{EndsWithReason, IsDecidedChild, IsEndOfChild
 use Rattle.child_jobs.specs.Variables.{Variables}
 
 -- by how the waits for it went, and what was told of that to an agent of the same connection
-pub end_told : {P C J : Type 0} (waited : Result (P × Status) C) (kills : Kills J) (fails : FailsToWait J) (ends : EndsAs J)
+pub end_told : {P C J : Type 0} (waited : Result (P × Exit) C) (kills : Kills J) (fails : FailsToWait J) (ends : EndsAs J)
     (by_force : Bool) (job : J) (serial own : ℕ) (last then : Option Event)
     → own ≡ serial → last ≡ then
-    → IfOk waited (λ r. OneEnds kills fails ends (rounds by_force) job r.1)
+    → IfOk waited (λ r. OneEnds kills fails ends (rounds by_force) job r.1.status)
     → OnErr waited (AllFail kills fails (rounds by_force) job)
-    → IfOk waited (λ r. then ≡ Some (Ended own r.1)) → OnErr waited (then ≡ Some (Retired own))
+    → IfOk waited (λ r. then ≡ Some (Ended own r.1.status)) → OnErr waited (then ≡ Some (Retired own))
     → IsEndOfChild kills fails ends by_force job last serial
 end_told (Ok r) kills fails ends by_force job serial own last then same is its none told untold =
-    inl (r.1, its, is ∙ (told ∙ ap (λ (n : ℕ). Some (Ended n r.1)) same))
+    inl (r.1.status, its, is ∙ (told ∙ ap (λ (n : ℕ). Some (Ended n r.1.status)) same))
 end_told (Err child) kills fails ends by_force job serial own last then same is none its untold told =
     inr (its, is ∙ (told ∙ ap (λ (n : ℕ). Some (Retired n)) same))
 

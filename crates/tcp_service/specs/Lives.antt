@@ -5,7 +5,7 @@ use Rattle.child_jobs.specs.Programs.{ProgramText}
 use Rattle.child_jobs.specs.Runs.{IsSameChild}
 use Rattle.rule_lookup.specs.Peers.{Client}
 use Rattle.child_jobs.specs.declared.outcome.DropCause.TheVariants as cause
-use Rattle.child_jobs.specs.declared.outcome.StartFault.{StartFault}
+use Rattle.child_jobs.specs.declared.outcome.NotStarted.{NotStarted}
 use Rattle.child_jobs.specs.declared.outcome.Status.{Status}
 use Rattle.one_connection.specs.Openings.{Opening, WasFound}
 use Rattle.one_connection.specs.Servings.{Drops, FailsFor, IsChild, IsDecidedAs, IsRefused}
@@ -17,8 +17,6 @@ use Rattle.shared_site.specs.Receipts.{made_event}
 use Rattle.shared_site.specs.declared.receipt.Made.{Made}
 use Rattle.tcp_connections.specs.declared.admission.AdmitOutcome.{AdmitOutcome}
 use Rattle.tcp_connections.specs.declared.admission.AdmitOutcome.TheVariants.{In}
-use Rattle.stream_tools.specs.declared.process.NotStarted.{NotStarted}
-use Rattle.tcp_connections.specs.Refusals.{RefusesBy}
 use Rattle.tcp_connections.specs.Rounds.{AllFail, EndsAs, FailsToWait, Kills, OneEnds, rounds}
 use Rattle.child_jobs.specs.Ends.{LocalEnd}
 use Rattle.child_jobs.specs.Variables.{Variables}
@@ -67,11 +65,7 @@ IsOwnChild found finds honest sound peer local plan program environment =
 
 -- how a starter may refuse a program with these variables
 abbrev pub Refuses : Type 1
-Refuses = ProgramText → Variables → StartFault → Type 0
-
--- a launcher refuses what its starter refuses
-abbrev pub MayRefuse : (ProgramText → Variables → NotStarted → Type 0) → Refuses
-MayRefuse refuses program variables fault = RefusesBy (refuses program variables) fault
+Refuses = ProgramText → Variables → NotStarted → Type 0
 
 -- A connection was served, and no program of it runs. It was dropped: as denied, by the decision by what it found, or
 -- for another cause that it has. Or its program could not be started, of such a decision to allow.

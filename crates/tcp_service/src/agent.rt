@@ -8,7 +8,7 @@ use crate::reasons::{Reason, cause_of_absence, cause_of_damage};
 use crate::server::AgentContext;
 use crate::telling::Telling;
 use byte_text::words_of_error;
-use child_jobs::{DropCause, Job, Local, Place, Running, StartFault, Status};
+use child_jobs::{DropCause, Exit, Job, Local, NotStarted, Place, Running};
 use one_connection::{Agent, cause_of_open, decide_by_pass};
 use rule_lookup::{DecideFault, Decision, Peer};
 use server_log::{Cause, Told};
@@ -17,7 +17,6 @@ use shared_site::turns::{Decided, Left, Opened, Retired, Started};
 use shared_site::{Ground, Made, OutOfTurn, Turn};
 use std::alloc::Global;
 use std::snapshot::Snapshot;
-use tcp_connections::Notes;
 
 /// What a connection found when it opened the rules, if it came to that.
 pub(crate) type FoundBy<G> = Option<Snapshot<Pass<<G as Ground>::Places, <G as Ground>::File>>>;
@@ -32,8 +31,6 @@ pub(crate) struct LoggedAgent<'a, G: AgentGround> {
     serial: u64,
     // the server's end of the connection
     local: &'a Local,
-    // what the system told of its program
-    notes: &'a Notes,
     // what the connection opened the rules by
     handle: Option<G::Handle>,
     // and what it found
@@ -44,12 +41,7 @@ pub(crate) struct LoggedAgent<'a, G: AgentGround> {
 
 impl<'a, G: AgentGround> AgentContext<'a, G> {
     /// The agent of the connection with this serial number. Nothing was asked for it yet.
-    pub(crate) fn agent<'b>(
-        &'b self,
-        serial: u64,
-        local: &'b Local,
-        notes: &'b Notes,
-    ) -> LoggedAgent<'b, G>
+    pub(crate) fn agent<'b>(&'b self, serial: u64, local: &'b Local) -> LoggedAgent<'b, G>
     where
         'a: 'b,
         ensures own { result.serial ≡ serial }
@@ -60,7 +52,6 @@ impl<'a, G: AgentGround> AgentContext<'a, G> {
             context: self,
             serial,
             local,
-            notes,
             handle: None,
             found: None,
             last: None,
@@ -153,19 +144,16 @@ impl<G: AgentGround> LoggedAgent<'_, G> {
     #[tactic(auto, using(crate::proofs::Asked::asked_for))]
     pub(crate) fn tell_end<C: Job>(
         &mut self,
-        ended: Result<(Place<G::Places>, Status), Running<G::Places, C>>,
+        ended: Result<(Place<G::Places>, Exit), Running<G::Places, C>>,
     )
-        ensures ended { IfOk ended (λ end. asked self.new.last ≡ Some (event.Ended self.old.serial end.1)) }
+        ensures ended { IfOk ended (λ end. asked self.new.last ≡ Some (event.Ended self.old.serial end.1.status)) }
         ensures retired { OnErr ended (asked self.new.last ≡ Some (event.Retired self.old.serial)) }
         ensures own { self.new.serial ≡ self.old.serial }
     {
         let serial = self.serial;
         let answer = match ended {
-            Ok((place, status)) => {
-                let signal = match status {
-                    Status::Signal => self.notes.signal(self.context.rt),
-                    Status::Code(_) => None,
-                };
+            Ok((place, exit)) => {
+                let Exit { status, signal } = exit;
                 let turn = Left::<G> {
                     serial,
                     place,
@@ -305,7 +293,7 @@ impl<G: AgentGround> Agent<G::Places> for LoggedAgent<'_, G> {
 
     #[tactic(auto, using(crate::proofs::Asked::asked_for))]
     fn started<C: Job>(&mut self, running: &Running<G::Places, C>, serial: u64, _peer: &Peer) {
-        let process = self.notes.number(self.context.rt);
+        let process = running.process();
         let turn = Started::<G, C> { serial, running };
         self.last = Some(self.tell(turn, Told::Started { serial, process }));
     }
@@ -316,9 +304,9 @@ impl<G: AgentGround> Agent<G::Places> for LoggedAgent<'_, G> {
         place: Place<G::Places>,
         serial: u64,
         _peer: &Peer,
-        fault: StartFault,
+        refusal: NotStarted,
     ) {
-        let error = self.notes.refusal.lock(self.context.rt).take();
+        let NotStarted { fault, error } = refusal;
         let why = error.and_then(|error| words_of_error(self.context.alloc, error).ok());
         let program = self.context.plan.program().path().as_bytes();
         let cause = why.as_ref().map(|why| Cause::new(program, why.as_str()));

@@ -30,12 +30,6 @@ where
 
     type Over = Over;
 
-    ghost of_work = { λ admitted. admitted.serial };
-
-    ghost of_alive = { λ alive. alive.serial };
-
-    ghost of_over = { λ over. over.serial };
-
     ghost retired = { λ over. over.is_retired };
 
     fn passes_up(&self) -> bool {

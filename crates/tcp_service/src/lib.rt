@@ -33,6 +33,6 @@ pub use server_words::{ConnectionLimits, Level, Mode};
 pub use service::Service;
 pub use serving::{Closed, Unfinished, serve};
 pub use tcp_connections::{
-    AcceptError, AcceptFault, Accepted, Acceptor, Errors, Follow, HostNames, NotStarted, Patience,
-    Reserve, ServeEnd, Shut, Starter, Supply,
+    AcceptError, Accepted, Acceptor, Errors, Follow, HostNames, Patience, Reserve, ServeEnd, Shut,
+    Starter, Supply,
 };

@@ -6,7 +6,7 @@ ghost use Rattle.one_connection.specs.Openings.{kept_opening};
 ghost use Rattle.server_events.specs.declared.event.Event.TheVariants.{Admitted as AdmittedEvent, Dropped as DroppedEvent};
 ghost use Rattle.shared_site.specs.Receipts.{made_event};
 ghost use Rattle.tcp_service.specs.Agents.{IsFoundFor, asked};
-ghost use Rattle.tcp_service.specs.Lives.{EndsWithReason, IsDecidedChild, IsEndOfChild, IsEndedByForce, IsOwnChild, MayRefuse, OfSameChild};
+ghost use Rattle.tcp_service.specs.Lives.{EndsWithReason, IsDecidedChild, IsEndOfChild, IsEndedByForce, IsOwnChild, OfSameChild};
 
 use crate::agent::FoundBy;
 use crate::host::Host;
@@ -19,7 +19,7 @@ use one_connection::{Agent, Served, serve_one};
 use rule_lookup::Peer;
 use shared_site::{Ground, Made};
 use std::snapshot::Snapshot;
-use tcp_connections::{ConnectionLauncher, Notes, Process, Shut, wait_in_rounds};
+use tcp_connections::{ConnectionLauncher, Shut, wait_in_rounds};
 
 /// A connection that was let in and whose program was not started yet: the right to what comes next. It is made of what
 /// its admission gave, whose event was of its serial number and its client (`own`). It is served, or given up.
@@ -53,7 +53,6 @@ pub(crate) struct Alive<'a, H: Host> {
     pub(crate) serial: u64,
     pub(crate) running: Running<H::Places, H::Job>,
     pub(crate) local: Local,
-    pub(crate) process: Option<Process>,
     // what its program says, if that is passed on; otherwise the program holds the connection itself
     pub(crate) downward: Option<Downward<H::Holder, H::Output>>,
 }
@@ -64,12 +63,8 @@ pub(crate) type Beginning<'a, H> = (
     Alive<'a, H>,
 );
 
-/// A program that was started for a connection, with what the connection found, and its process.
-type Ran<H> = (
-    Running<<H as Ground>::Places, <H as Host>::Job>,
-    FoundBy<H>,
-    Option<Process>,
-);
+/// A program that was started for a connection, with what the connection found.
+type Ran<H> = (Running<<H as Ground>::Places, <H as Host>::Job>, FoundBy<H>);
 
 impl<H: Host> Server<'_, H> {
     // Serves a connection up to the start of its program.
@@ -90,25 +85,19 @@ impl<H: Host> Server<'_, H> {
         ensures reason { IfErr result (λ over. EndsWithReason
             (IsFoundFor H.Places.met (H.Rules.gives self.now.context.rules.now) H.Handle.opened serial)
             H.File.honest H.File.sound peer.now local.now self.now.context.plan.now
-            (MayRefuse (H.Starter.refuses self.now.starter.now streams.old.shut)) serial (asked over.last.value)) }
+            (H.Starter.refuses self.now.starter.now streams.old.shut) serial (asked over.last.value)) }
     {
-        let notes = Notes::of(None);
-        let mut agent = self.context.agent(serial, local, &notes);
+        let mut agent = self.context.agent(serial, local);
         let launcher = ConnectionLauncher {
-            rt: self.context.rt,
             starter: self.starter,
             connection: &streams.shut,
-            notes: &notes,
         };
         let (alloc, plan) = (self.context.alloc, self.context.plan);
         let writer = &mut streams.writer;
         match serve_one(
             alloc, &mut agent, place, serial, peer, local, plan, launcher, writer,
         ) {
-            Served::Running(running) => {
-                let process = notes.take(self.context.rt);
-                Ok((running, agent.into_found(), process))
-            }
+            Served::Running(running) => Ok((running, agent.into_found())),
             Served::Denied | Served::StartFailed(_) | Served::Dropped(_) => {
                 let over = Over::of(&agent, serial, false);
                 drop(agent);
@@ -124,7 +113,6 @@ impl<H: Host> Server<'_, H> {
         serial: u64,
         running: Running<H::Places, H::Job>,
         local: &Local,
-        process: Option<Process>,
         by_force: bool,
         shut: Option<H::Holder>,
     ) -> Over
@@ -137,8 +125,7 @@ impl<H: Host> Server<'_, H> {
         if let Some(shut) = shut {
             shut.shut();
         }
-        let notes = Notes::of(process);
-        let mut agent = self.context.agent(serial, local, &notes);
+        let mut agent = self.context.agent(serial, local);
         agent.tell_end(ended);
         let over = Over::of(&agent, serial, is_retired);
         drop(agent);
@@ -162,7 +149,7 @@ impl<'a, H: Host> Admitted<'a, H> {
         ensures reason { IfErr result (λ over. EndsWithReason
             (IsFoundFor H.Places.met (H.Rules.gives self.entry.server.now.context.rules.now) H.Handle.opened self.entry.serial)
             H.File.honest H.File.sound self.entry.peer self.entry.local self.entry.server.now.context.plan.now
-            (MayRefuse (H.Starter.refuses self.entry.server.now.starter.now self.entry.streams.shut)) self.entry.serial
+            (H.Starter.refuses self.entry.server.now.starter.now self.entry.streams.shut) self.entry.serial
             (asked over.last.value)
             ⊎ IsEndedByForce (IsDecidedChild
             (IsFoundFor H.Places.met (H.Rules.gives self.entry.server.now.context.rules.now) H.Handle.opened self.entry.serial)
@@ -194,8 +181,7 @@ impl<'a, H: Host> Admitted<'a, H> {
             streams,
             made: _,
         } = self;
-        let notes = Notes::of(None);
-        let mut agent = server.context.agent(serial, &local, &notes);
+        let mut agent = server.context.agent(serial, &local);
         agent.dropped(place, serial, &peer, cause);
         let over = Over::of(&agent, serial, false);
         drop(agent);
@@ -217,7 +203,7 @@ impl<'a, H: Host> Admitted<'a, H> {
         ensures reason { IfErr result (λ over. EndsWithReason
             (IsFoundFor H.Places.met (H.Rules.gives self.entry.server.now.context.rules.now) H.Handle.opened self.entry.serial)
             H.File.honest H.File.sound self.entry.peer self.entry.local self.entry.server.now.context.plan.now
-            (MayRefuse (H.Starter.refuses self.entry.server.now.starter.now self.entry.streams.shut)) self.entry.serial
+            (H.Starter.refuses self.entry.server.now.starter.now self.entry.streams.shut) self.entry.serial
             (asked over.last.value)) }
     {
         let Admitted {
@@ -230,13 +216,12 @@ impl<'a, H: Host> Admitted<'a, H> {
             made: _,
         } = self;
         match server.serve(serial, place, &peer, &local, &mut streams) {
-            Ok((running, found, process)) => {
+            Ok((running, found)) => {
                 let alive = Alive {
                     server,
                     serial,
                     running,
                     local,
-                    process,
                     downward: None,
                 };
                 let kept = Snapshot::of(&peer);
@@ -293,7 +278,6 @@ impl<'a, H: Host> Alive<'a, H> {
             serial,
             mut running,
             local,
-            process,
             downward: _,
         } = self;
         let Ok((to, from)) = running.ends() else {
@@ -304,7 +288,7 @@ impl<'a, H: Host> Alive<'a, H> {
                 .no_pipe_ends(serial);
             drop(chains);
             let shut = Some(streams.into_shut());
-            let over = server.see_out(serial, running, &local, process, true, shut);
+            let over = server.see_out(serial, running, &local, true, shut);
             drop(local);
             return Err(over);
         };
@@ -314,7 +298,6 @@ impl<'a, H: Host> Alive<'a, H> {
             serial,
             running,
             local,
-            process,
             downward: Some(downward),
         };
         Ok((Some(upward), alive))
@@ -332,13 +315,12 @@ impl<'a, H: Host> Alive<'a, H> {
             serial,
             running,
             local,
-            process,
             downward,
         } = self;
         let shut = match downward {
             Some(downward) => Some(server.pass_down(downward)),
             None => None,
         };
-        server.see_out(serial, running, &local, process, false, shut)
+        server.see_out(serial, running, &local, false, shut)
     }
 }

@@ -5,8 +5,8 @@ ghost use Rattle.child_jobs.specs.Runs.{place_of};
 
 use crate::calls::{OrWrong, Wrong};
 use child_jobs::{
-    Environment, Job, Launcher, NoEnds, Place, Program, Running, StartFault, Status, WaitFault,
-    finish, start,
+    Environment, Exit, Job, Launcher, NoEnds, NotStarted, Place, Program, Running, Status,
+    WaitFault, finish, start,
 };
 use server_yard::Assumptions;
 use std::alloc::Global;
@@ -44,9 +44,12 @@ impl Job for Idle {
         Ok(())
     }
 
-    fn wait(self) -> Result<Status, (Idle, WaitFault)> {
+    fn wait(self) -> Result<Exit, (Idle, WaitFault)> {
         self.abandon();
-        Ok(Status::Code(7))
+        Ok(Exit {
+            status: Status::Code(7),
+            signal: None,
+        })
     }
 
     fn abandon(self) {
@@ -71,7 +74,7 @@ impl Launcher for Starts {
         _alloc: Global,
         program: &Program,
         environment: &Environment,
-    ) -> Result<Idle, StartFault> {
+    ) -> Result<Idle, NotStarted> {
         Ok(Idle {
             program: Snapshot::of(program),
             environment: Snapshot::of(environment),
@@ -99,7 +102,7 @@ pub(crate) fn start_child<L: Assumptions>(
 /// Waits until such a child has ended.
 pub(crate) fn end_child<L: Assumptions>(running: Running<L, Idle>) -> OrWrong<(Place<L>, Status)> {
     match finish(running) {
-        Ok(ended) => Ok(ended),
+        Ok((place, exit)) => Ok((place, exit.status)),
         Err((running, _)) => {
             running.strand();
             Err(Wrong)

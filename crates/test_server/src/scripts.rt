@@ -2,7 +2,8 @@
 ghost use Rattle.std.specs.Prelude.{is_some, true, ⊤};
 
 use child_jobs::{
-    Environment, Job, Launcher, Local, NoEnds, Program, StartFault, Status, WaitFault,
+    Environment, Exit, Job, Launcher, Local, NoEnds, NotStarted, Program, StartFault, Status,
+    WaitFault,
 };
 use std::alloc::Global;
 use std::io::{Read, Write};
@@ -12,9 +13,7 @@ use std::sync::{Mutex, Wait};
 use std::time::{Clock, Duration};
 use std::{io, thread};
 use stream_tools::SharedWriter;
-use tcp_service::{
-    AcceptError, AcceptFault, Accepted, Acceptor, Follow, NotStarted, Patience, Shut, Starter,
-};
+use tcp_service::{AcceptError, Accepted, Acceptor, Follow, Patience, Shut, Starter};
 
 /// How many milliseconds a job waits at most for another one's start.
 const PATIENCE: u64 = 10_000;
@@ -77,7 +76,7 @@ impl<R: Wait> Acceptor for Clients<'_, R> {
         }
         let Some(clients) = left.clients.checked_sub(1) else {
             return Err(AcceptError {
-                fault: AcceptFault::Other,
+                lacks_room: false,
                 number: None,
             });
         };
@@ -201,7 +200,7 @@ impl<'a, R: Clock + Wait> Launcher for Scripts<'a, R> {
         _alloc: Global,
         program: &Program,
         environment: &Environment,
-    ) -> Result<ScriptedJob<'a, R>, StartFault> {
+    ) -> Result<ScriptedJob<'a, R>, NotStarted> {
         let number = self.tally.starts.fetch_add(1, Ordering::SeqCst) as usize;
         let last = self.words.last().ok_or(StartFault::Other)?;
         let script = Script::new(self.words.get(number).unwrap_or(last).as_str());
@@ -236,7 +235,7 @@ impl<'a, R: Clock + Wait> Starter<Silent> for Scripts<'a, R> {
             words: self.words,
             tally: self.tally,
         };
-        Ok(scripts.start(alloc, program, environment)?)
+        scripts.start(alloc, program, environment)
     }
 }
 
@@ -279,7 +278,7 @@ impl<'a, R: Clock + Wait> Job for ScriptedJob<'a, R> {
         self.script.kill()
     }
 
-    fn wait(mut self) -> Result<Status, (ScriptedJob<'a, R>, WaitFault)> {
+    fn wait(mut self) -> Result<Exit, (ScriptedJob<'a, R>, WaitFault)> {
         self.ends = None;
         self.tally.waits.fetch_add(1, Ordering::SeqCst);
         let letter = self.script.waits.get(self.waited).copied();
@@ -294,7 +293,10 @@ impl<'a, R: Clock + Wait> Job for ScriptedJob<'a, R> {
         match end {
             Ok(status) => {
                 self.abandon();
-                Ok(status)
+                Ok(Exit {
+                    status,
+                    signal: None,
+                })
             }
             Err(fault) => Err((self, fault)),
         }

@@ -4,7 +4,7 @@ ghost use Rattle.server_events.specs.declared.event.Stage.TheVariants as stage;
 ghost use Rattle.server_yard.specs.Yards.{serial_of};
 ghost use Rattle.whole_yard.specs.YardAgents.{StandsAt};
 
-use child_jobs::{DropCause, Job, Place, Running, StartFault};
+use child_jobs::{DropCause, Job, NotStarted, Place, Running};
 use dir_calls::Dir;
 use one_connection::{Agent, cause_of_open, decide_by_pass};
 use rule_lookup::{DecideFault, Decision, Peer};
@@ -157,14 +157,14 @@ impl<L: Assumptions, D: Dir + Drop> Agent<L> for YardAgent<L, D> {
         self.yard.started(running);
     }
 
-    fn start_failed(&mut self, place: Place<L>, serial: u64, peer: &Peer, fault: StartFault)
+    fn start_failed(&mut self, place: Place<L>, serial: u64, peer: &Peer, refusal: NotStarted)
         requires stands { StandsAt self.old.yard place serial peer.now (stage.Decided Allow) }
         ensures told { MakesEvent
-            (LeadsOn (StartFailed serial fault)) (StartFailed serial fault) self.old.yard self.new.yard }
+            (LeadsOn (StartFailed serial refusal.fault)) (StartFailed serial refusal.fault) self.old.yard self.new.yard }
         ensures gone { IsGoneFrom self.new.yard serial }
         ensures keeps { kept_opening D.File.bytes self.new.found ≡ kept_opening D.File.bytes self.old.found }
     {
-        self.yard.left(place, Leaving::StartFailed(fault));
+        self.yard.left(place, Leaving::StartFailed(refusal.fault));
     }
 
     fn dropped(&mut self, place: Place<L>, serial: u64, peer: &Peer, cause: DropCause)

@@ -2,7 +2,7 @@
 use Rattle.std.proofs.Common.{◌∙◌, ap, rules, subst, sym}
 use Rattle.child_jobs.specs.Runs.{job_of}
 use Rattle.tcp_service.specs.Agents.{IsFoundFor, asked}
-use Rattle.tcp_service.specs.Lives.{EndsWithReason, IsDecidedChild, MayRefuse}
+use Rattle.tcp_service.specs.Lives.{EndsWithReason, IsDecidedChild}
 use Rattle.tcp_service.proofs.Told.{forced_if, runs_if}
 use Rattle.tcp_service.proofs.life.Admitted.begin.Goals as goal
 
@@ -12,7 +12,7 @@ returns-in-Ok-serve g c =
     let it = c.args.self in
     let finds = IsFoundFor g.H.Places.Assumptions.met (g.H.Rules.Rules.gives it.server.now.context.rules.now) g.H.Handle.RulesHandle.opened it.serial in
     let such = IsDecidedChild finds g.H.File.RulesFile.honest g.H.File.RulesFile.sound it.peer it.local it.server.now.context.plan.now in
-    let refuses = MayRefuse (g.H.Starter.Starter.refuses it.server.now.starter.now it.streams.shut) in
+    let refuses = g.H.Starter.Starter.refuses it.server.now.starter.now it.streams.shut in
     let serve = c.in-Ok-serve.ensures in
     let its = subst (λ alive. such (job.program (job_of alive.running)) (job.environment (job_of alive.running))) (sym c.go_on.ensures.same) serve.child in
     let first = job_of c.go_on.result.running in

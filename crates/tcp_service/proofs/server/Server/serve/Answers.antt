@@ -2,17 +2,17 @@
 use Rattle.std.proofs.Common.{◌∙◌, ap, ℕ, subst}
 use Rattle.one_connection.specs.Openings.{kept_opening}
 use Rattle.tcp_service.specs.Agents.{IsFoundFor, asked}
-use Rattle.tcp_service.specs.Lives.{EndsWithReason, MayRefuse}
+use Rattle.tcp_service.specs.Lives.{EndsWithReason}
 use Rattle.tcp_service.proofs.Told.{unserved_told}
 use Rattle.tcp_service.proofs.server.Server.serve.Goals as goal
 
-pub returns-clause-reason : goal.returns-clause-reason
-returns-clause-reason g c =
+pub returns-in-Denied-clause-reason : goal.returns-in-Denied-clause-reason
+returns-in-Denied-clause-reason g c =
     let agent = c.agent-agent.result in
     let serial = c.args.serial in
     let last = asked c.of-over.result.last.value in
     let finds : _ → ℕ → _ → Type 0 = λ rules n. IsFoundFor g.H.Places.Assumptions.met (g.H.Rules.Rules.gives rules) g.H.Handle.RulesHandle.opened n in
-    let refuses = MayRefuse (g.H.Starter.Starter.refuses c.args.self.now.starter.now c.args.streams.now.shut) in
+    let refuses = g.H.Starter.Starter.refuses c.args.self.now.starter.now c.args.streams.now.shut in
     let ends : _ → ℕ → Type 0 = λ rules n. EndsWithReason (finds rules n) g.H.File.RulesFile.honest g.H.File.RulesFile.sound c.args.peer.now c.args.local.now c.args.self.now.context.plan.now refuses serial last in
     subst (λ rules. ends rules serial) c.agent-agent.ensures.rules
     (subst (λ n. ends agent.context.now.rules.now n) c.agent-agent.ensures.own
