@@ -19,7 +19,6 @@ pub mod option_fault;
 pub mod option_laws;
 pub mod option_words;
 pub mod options;
-pub mod usage;
 pub mod words;
 pub mod wrapping;
 
@@ -33,6 +32,5 @@ pub use operands::Operands;
 pub use option_fault::WordFault;
 pub use option_words::read_words;
 pub use options::{OptionGiven, Options};
-pub use usage::{Lacking, UsageCause, usage_cause};
 pub use words::{ServerWords, read_server_words};
 pub use wrapping::{LineWrapperName, Wrapping};

@@ -88,10 +88,7 @@ pub fn read_server_words(
 }
 
 /// The options at the start of the words, and the words after them.
-pub(crate) fn read_options(
-    alloc: Global,
-    words: &[String],
-) -> Result<(Options<'_>, &[String]), WordFault>
+fn read_options(alloc: Global, words: &[String]) -> Result<(Options<'_>, &[String]), WordFault>
     ensures read { IfOk result (λ r. options_in (texts words.now)
         ≡ Ok (record { options = r.0; rest = texts r.1.now })) }
     ensures refused { IfErr result (Refuses (options_in (texts words.now))) }
