@@ -28,7 +28,7 @@ pub use level::Level;
 pub use limits::ConnectionLimits;
 pub use mode::Mode;
 pub use number::number_in;
-pub use operands::Operands;
+pub use operands::{Operands, address_of, port_of};
 pub use option_fault::WordFault;
 pub use option_words::read_words;
 pub use options::{OptionGiven, Options};
