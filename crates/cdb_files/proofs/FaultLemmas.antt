@@ -14,7 +14,7 @@ use Rattle.rule_lookup.specs.declared.decision.DecideFault.{DecideFault}
 use Rattle.rule_lookup.specs.declared.decision.DecideFault.TheVariants.{Find, Code, OutOfMemory as NoMemory}
 use Rattle.rule_lookup.specs.Decisions.{of_code}
 use Rattle.rule_lookup.proofs.CodeFaults.{decoded-none}
-use Rattle.cdb_files.specs.Parts.{CodeFails, FailsOf, IsFault, IsReadFault, SettingsFail}
+use Rattle.cdb_files.specs.Parts.{CodeFails, FailsOf, IsFault, IsReadFault, ReadFails, SettingsFail}
 
 -- a value that was read is no code
 pub CodeFails-code : (honest sound : Bool) (value code : List ℕ) (e : DecodeFault) → (IsTrue honest → code ≡ value) → RefusesCode code e → CodeFails honest sound value (of_code e)
@@ -49,6 +49,12 @@ CodeFails-settings honest sound value codes (Find Device) none fails = fails
 CodeFails-settings honest sound value codes (Find OutOfMemory) none fails = fails
 CodeFails-settings honest sound value codes (Code fault) none fails = λ h. none h (fails h)
 CodeFails-settings honest sound value codes NoMemory none fails = tt
+
+-- what is to be found could not be read
+pub IsFault-read : (honest sound : Bool) (found : Finding) (e : FindFault) → ReadFails honest sound e → IsFault honest sound found e
+IsFault-read honest sound found Short fails = λ h. absurd (fails h)
+IsFault-read honest sound found Device fails = fails
+IsFault-read honest sound found OutOfMemory fails = tt
 
 -- a fault at one position is one of what is found there
 pub IsFault-at : (honest sound : Bool) (found whole : Finding) (e : FindFault) → IsFault honest sound found e → (IsTrue honest → found ≡ Broken → whole ≡ Broken) → IsFault honest sound whole e

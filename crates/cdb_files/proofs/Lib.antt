@@ -22,3 +22,4 @@ pub mod ReadLemmas
 pub mod Records
 pub mod StageLemmas
 pub mod StoredRules
+pub mod SourceLemmas

@@ -309,10 +309,7 @@ impl<F: RulesFile> CdbFile<F> {
         let mut done = 0;
         while done < len {
             let count = (len - done).min(VALUE_PIECE);
-            let piece = match self.bytes_at(alloc, stored.value_position() + done as u64, count) {
-                Ok(piece) => piece,
-                Err(fault) => return Err(DecideFault::of_look_up(fault)),
-            };
+            let piece = self.read(alloc, stored.value_position() + done as u64, count)?;
             let Some(front) = text_front(&piece, done + count == len) else {
                 return Err(DecideFault::Code(CodeFault::NotCode));
             };
@@ -462,10 +459,7 @@ impl<F: RulesFile> CdbFile<F> {
             → IfOk result (λ instr. decoded (value_of (F.bytes self.now) stored) ≡ Some instr) }
         ensures refused { IfErr result (CodeFails F.honest F.sound (value_of (F.bytes self.now) stored)) }
     {
-        let head = match self.bytes_at(alloc, stored.value_position(), 2) {
-            Ok(head) => head,
-            Err(fault) => return Err(DecideFault::of_look_up(fault)),
-        };
+        let head = self.read(alloc, stored.value_position(), 2)?;
         let (verdict, codes) = split_verdict(&head);
         let begin = 2 - codes.len();
         let settings = self.settings_at(
@@ -487,10 +481,7 @@ impl<F: RulesFile> CdbFile<F> {
             self.check_code(alloc, stored)?;
             return self.decode_long(alloc, stored);
         }
-        let code = match self.value_of(alloc, stored) {
-            Ok(code) => code,
-            Err(fault) => return Err(DecideFault::of_look_up(fault)),
-        };
+        let code = self.read(alloc, stored.value_position(), stored.value_len as usize)?;
         match decode_instr(alloc, &code) {
             Ok(instr) => Ok(instr),
             Err(fault) => Err(DecideFault::of_code(fault)),

@@ -14,7 +14,7 @@ pub enum Voice {
 }
 
 /// What is told behind the line of a fault.
-#[derive(Clone, Copy, Debug)]
+#[derive(Clone, Copy)]
 pub enum Detail {
     /// Nothing.
     Line,

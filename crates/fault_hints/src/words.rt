@@ -1,16 +1,14 @@
 //! What is told behind the line of a fault of words: what is wrong, and what may stand there.
-ghost use Rattle.std.specs.Prelude.{◌≡◌, Ok, IfOk, IfErr, is_some};
+ghost use Rattle.std.specs.Prelude.{◌≡◌, Ok, IfOk, IfErr};
 ghost use Rattle.byte_text.specs.Outcomes.{AppendsLine, AppendsPart};
-ghost use Rattle.server_words.specs.Operands.{address_in, port_in, texts};
-ghost use Rattle.server_words.specs.Plans.{level_of};
+ghost use Rattle.server_words.specs.Operands.{texts};
 ghost use Rattle.fault_hints.specs.Words.{help_of, help_text, host_text, lacking_behind, lacking_in, lacking_line, port_text, refused_hint, what_lacks};
 ghost use Rattle.server_words.specs.Words.{Refuses, reading};
 
 use crate::voice::{Detail, Voice};
 use byte_text::{append_cause, push_text, whole_or_none};
-use rule_lookup::parse_address;
 use server_words::option_laws::by_the_rules;
-use server_words::{Level, Options, ServerWordsFault, WordFault, number_in, read_words};
+use server_words::{Level, Options, ServerWordsFault, WordFault, address_of, port_of, read_words};
 use std::alloc::{AllocError, Global};
 
 /// The letters of `tcpserver`, by which the level is looked for that words ask for, though they have letters that are refused.
@@ -81,7 +79,7 @@ fn lacking_in(words: &[String]) -> Lacking<'_>
 {
     match words.split_first() {
         None => Lacking::Program,
-        Some((host, rest)) if is_host(host.as_str()) => lacking_behind(rest),
+        Some((host, rest)) if address_of(host.as_str()).is_some() => lacking_behind(rest),
         Some((host, _)) => Lacking::Host(host.as_str()),
     }
 }
@@ -91,24 +89,9 @@ fn lacking_behind(words: &[String]) -> Lacking<'_>
     ensures { what_lacks result ≡ lacking_behind (texts words.now) }
 {
     match words.split_first() {
-        Some((port, _)) if !is_port(port.as_str()) => Lacking::Port(port.as_str()),
+        Some((port, _)) if port_of(port.as_str()).is_none() => Lacking::Port(port.as_str()),
         _ => Lacking::Program,
     }
-}
-
-fn is_host(word: &str) -> bool
-    ensures { result ≡ is_some (address_in word.now) }
-{
-    match word {
-        "0" | "localhost" => true,
-        _ => parse_address(word).is_some(),
-    }
-}
-
-fn is_port(word: &str) -> bool
-    ensures { result ≡ is_some (port_in word.now) }
-{
-    number_in(word, 0, 65_535).is_some()
 }
 
 /// Appends what a voice tells behind the line of this fault of words, under the level that they ask for.
@@ -126,7 +109,7 @@ pub fn append_help(
 {
     match hear(alloc, words) {
         Ok((options, rest)) => {
-            let detail = voice.detail(level_of(&options));
+            let detail = voice.detail(Level::of(&options));
             append_detail(out, detail, fault, rest)
         }
         Err(WordFault::OutOfMemory) => Err(AllocError),
@@ -217,15 +200,4 @@ fn refused_hint(letter: char) -> &'static str
     ensures { result.now ≡ refused_hint letter }
 {
     if letter == 'r' { PEERS } else { USERS }
-}
-
-/// The level that options ask for.
-fn level_of(options: &Options<'_>) -> Level
-    ensures { result ≡ level_of options.now }
-{
-    match options.last_of(&['v', 'Q', 'q']) {
-        Some('v') => Level::All,
-        Some('q') => Level::Quiet,
-        _ => Level::Errors,
-    }
 }

@@ -5,7 +5,6 @@ ghost use Rattle.rule_lines.specs.declared.fault.ParseFault.TheVariants.{OutOfMe
 ghost use Rattle.rule_lines.specs.declared.fault.RuleFault.TheVariants.{OutOfMemory as NoMemory};
 
 use std::alloc::{AllocError, AllocFailed};
-use std::error::Error;
 use std::fmt;
 
 /// What is wrong with a line of a rule text. Of several the first one in this order is named.
@@ -50,8 +49,6 @@ impl fmt::Display for LineKind {
     }
 }
 
-impl Error for LineKind {}
-
 /// The first faulty line of a text, counted from 1, and its least kind.
 #[derive(Clone, Copy, PartialEq, Eq, Debug)]
 pub struct LineFault {
@@ -69,8 +66,6 @@ impl fmt::Display for LineFault {
         write!(f, "line {}: {}", self.line, self.kind)
     }
 }
-
-impl Error for LineFault {}
 
 /// Why a line gives no rules: what is wrong with it, or that there was no memory for them.
 #[derive(Clone, Copy)]
@@ -90,13 +85,11 @@ impl From<AllocError> for RuleFault {
 }
 
 /// Why `parse` gives no list.
-#[derive(Clone, Copy, Debug, thiserror::Error)]
+#[derive(Clone, Copy)]
 pub enum ParseFault {
     /// The text is not accepted.
-    #[error("{0}")]
     Line(LineFault),
     /// There was no memory for the list.
-    #[error("out of memory")]
     OutOfMemory,
 }
 

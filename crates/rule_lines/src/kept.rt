@@ -5,7 +5,7 @@ ghost use Rattle.rule_lines.specs.Kept.{AreKept, IsFound, IsKeptLine, IsLineAt, 
 ghost use Rattle.rule_lines.specs.ReadAddresses.{addresses_read};
 ghost use Rattle.rule_lines.specs.Rows.{addresses_under, length_with};
 
-use crate::spread::{Numbers, ReadAddress, number_at, read_address};
+use crate::spread::{Numbers, ReadAddress, count_in, number_at, read_address};
 use itoa::Buffer;
 use memchr::memchr;
 use rule_lookup::lines::first_line;
@@ -82,16 +82,6 @@ pub(crate) fn first_kept(kept: &[u8]) -> (KeptLine<'_>, &[u8])
 {
     let (line, after) = first_line(kept);
     (read_kept(line), after)
-}
-
-/// How many addresses there are.
-pub(crate) fn count_in(addresses: &ReadAddress<'_>) -> usize
-    ensures { result ≡ length (addresses_read addresses.now) }
-{
-    match addresses {
-        ReadAddress::One(_) => 1,
-        ReadAddress::Range { numbers, .. } => usize::from(numbers.count),
-    }
 }
 
 /// How many rules there are, and how many bytes their addresses and the codes of their instructions have.

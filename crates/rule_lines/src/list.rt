@@ -215,9 +215,6 @@ impl RuleList {
             self.range.write(position, rule)?;
             return Ok(true);
         }
-        if i >= self.tally.rules {
-            return Ok(false);
-        }
         let Some(found) = rule_at(&self.kept, self.near.not_behind(i), i) else {
             return Ok(false);
         };

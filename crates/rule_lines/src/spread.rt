@@ -32,6 +32,16 @@ pub enum ReadAddress<'a> {
     },
 }
 
+/// How many addresses there are.
+pub fn count_in(addresses: &ReadAddress<'_>) -> usize
+    ensures { result ≡ length (addresses_read addresses.now) }
+{
+    match addresses {
+        ReadAddress::One(_) => 1,
+        ReadAddress::Range { numbers, .. } => usize::from(numbers.count),
+    }
+}
+
 /// What an address stands for, or nothing where it is a range with a part that is no number.
 pub fn read_address(address: &[u8]) -> Option<ReadAddress<'_>>
     ensures { MatchOption result
@@ -108,7 +118,7 @@ fn after_last_dot(bytes: &[u8]) -> usize
 }
 
 /// Where the first dot stands: at the end where there is none.
-fn next_dot(bytes: &[u8]) -> usize
+pub fn next_dot(bytes: &[u8]) -> usize
     ensures value { result ≡ position_or_len (λ b. b == 46) bytes.now }
     ensures within { result ≤ length bytes.now }
 {

@@ -9,27 +9,23 @@ ghost use Rattle.rule_lookup.specs.declared.code.DecodeFault.TheVariants.{OutOfM
 use crate::instr::{Instr, Settings, Verdict};
 use memchr::memchr;
 use std::alloc::{AllocError, AllocFailed, Global};
-use thiserror::Error;
 
 /// The code of the verdict that denies.
 const DENY_CODE: &[u8] = b"D\0";
 
 /// Why bytes have no instruction.
-#[derive(Clone, Copy, Debug, Error)]
+#[derive(Clone, Copy)]
 pub enum CodeFault {
     /// They are the code of no instruction.
-    #[error("no code")]
     NotCode,
 }
 
 /// Why `decode_instr` gives no instruction.
-#[derive(Clone, Copy, Debug, Error)]
+#[derive(Clone, Copy)]
 pub enum DecodeFault {
     /// The bytes are no code.
-    #[error("{0}")]
     Code(CodeFault),
     /// There was no memory for the instruction.
-    #[error("out of memory")]
     OutOfMemory,
 }
 

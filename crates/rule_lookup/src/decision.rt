@@ -11,7 +11,6 @@ use crate::instr::{Instr, Settings, Verdict};
 use crate::source::{FindFault, RuleSource};
 use std::alloc::{AllocError, AllocFailed, Global};
 use std::marker::Model;
-use thiserror::Error;
 
 /// What is decided if there is no rules file.
 #[derive(Clone, Copy)]
@@ -135,16 +134,13 @@ impl Decision {
 }
 
 /// Why there is no decision.
-#[derive(Clone, Copy, Debug, Error)]
+#[derive(Clone, Copy)]
 pub enum DecideFault {
     /// A lookup failed.
-    #[error("{0}")]
     Find(FindFault),
     /// The value that was found is not the code of an instruction.
-    #[error("{0}")]
     Code(CodeFault),
     /// There was no memory for the decision.
-    #[error("out of memory")]
     OutOfMemory,
 }
 

@@ -5,19 +5,15 @@ ghost use Rattle.rule_lookup.specs.declared.peer.PeerFault.TheVariants.{OutOfMem
 
 use std::alloc::{AllocError, AllocFailed, Global};
 use std::marker::Model;
-use thiserror::Error;
 
 /// Why a peer can't be made.
-#[derive(Clone, Copy, Debug, Error)]
+#[derive(Clone, Copy)]
 pub enum PeerFault {
     /// The host's name is empty, longer than 255 bytes, or has a zero byte.
-    #[error("bad host")]
     BadHost,
     /// The user's name is empty, longer than 255 bytes, or has a zero byte.
-    #[error("bad user")]
     BadInfo,
     /// There was no memory for the names.
-    #[error("out of memory")]
     OutOfMemory,
 }
 

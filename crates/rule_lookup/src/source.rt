@@ -8,19 +8,15 @@ use crate::code::decode_instr;
 use crate::decision::DecideFault;
 use crate::instr::Instr;
 use std::alloc::{AllocError, AllocFailed, Global};
-use thiserror::Error;
 
 /// Why a look-up has no answer.
-#[derive(Clone, Copy, Debug, Error)]
+#[derive(Clone, Copy)]
 pub enum FindFault {
     /// The source is damaged: it points to a position outside of itself.
-    #[error("damaged")]
     Short,
     /// The source could not be read.
-    #[error("device fault")]
     Device,
     /// There was no memory for the answer.
-    #[error("out of memory")]
     OutOfMemory,
 }
 

@@ -8,16 +8,6 @@ use byte_text::push_number;
 use rule_lines::spread::{Numbers, ReadAddress};
 use std::alloc::AllocError;
 
-/// How many addresses there are.
-pub fn count(addresses: &ReadAddress<'_>) -> usize
-    ensures { result ≡ length (addresses_read addresses.now) }
-{
-    match addresses {
-        ReadAddress::One(_) => 1,
-        ReadAddress::Range { numbers, .. } => usize::from(numbers.count),
-    }
-}
-
 /// Writes the address at a position, in place of the bytes of `out`. After an `Err` any bytes stand there.
 pub fn write_address(
     addresses: &ReadAddress<'_>,

@@ -11,13 +11,13 @@ ghost use Rattle.rule_warnings.specs.Findings.{kinds_in};
 ghost use Rattle.rule_warnings.specs.Tables.{IsUpTo, line_under, noted_all};
 ghost use Rattle.rule_warnings.specs.Warnings.{addresses_in, decided_by, has_no_client, has_user, is_lost, is_moved_comment, kinds_by, looks_ignored};
 
-use crate::addresses::{count, write_address};
+use crate::addresses::write_address;
 use crate::client::{asks_user, contains, first_equals, has_capitals, is_form};
 use crate::seen::Seen;
 use crate::settings::has_blank_name;
 use crate::spans::{is_cut, lesser};
 use memchr::memchr;
-use rule_lines::spread::{ReadAddress, read_address};
+use rule_lines::spread::{ReadAddress, count_in, read_address};
 use rule_lookup::lines::is_blank;
 use std::alloc::{AllocError, Global};
 
@@ -147,7 +147,7 @@ fn look_at_address<'a>(
 fn has_client(addresses: &ReadAddress<'_>, buffer: &mut Vec<u8>) -> Result<bool, AllocError>
     ensures { IfOk result (λ has. has ≡ list_any is_form (addresses_read addresses.now)) }
 {
-    for position in 0..count(addresses) {
+    for position in 0..count_in(addresses) {
         write_address(addresses, position, buffer)?;
         if is_form(buffer) {
             return Ok(true);
@@ -167,7 +167,7 @@ fn decider(
         line ≡ decided_by (line_under seen.now) (addresses_read addresses.now)) }
 {
     let mut least = None;
-    for position in 0..count(addresses) {
+    for position in 0..count_in(addresses) {
         write_address(addresses, position, buffer)?;
         match seen.line_of(alloc, buffer)? {
             Some(line) => least = Some(lesser(least, line)),
@@ -245,7 +245,7 @@ fn note_each(
     ensures { OnOk result ((other : List ℕ) → line_under seen.new other
         ≡ noted_all (line_under seen.old) (addresses_read addresses.now) number other) }
 {
-    for position in 0..count(addresses) {
+    for position in 0..count_in(addresses) {
         write_address(addresses, position, buffer)?;
         seen.note_made(alloc, buffer, number)?;
     }

@@ -1,11 +1,12 @@
 //! The warnings of a text.
-ghost use Rattle.std.specs.Prelude.{◌≡◌, ◌<◌, ◌≤◌, ◌⊎◌, ◌++◌, ◌==◌, ◌||◌, [], not, true, None, length, flat_map, IfOk, IfErr, OnOk};
+ghost use Rattle.std.specs.Prelude.{◌≡◌, ◌<◌, ◌≤◌, ℕ, List, ◌⊎◌, ◌++◌, ◌==◌, ◌||◌, [], not, true, None, length, flat_map, IfOk, IfErr, OnOk};
 ghost use Rattle.std.specs.Io.KnownBytes.{Appends};
 ghost use Rattle.std.specs.List.{list_any};
 ghost use Rattle.rule_lines.specs.Faults.{first_faulty, IsAccepted};
 ghost use Rattle.rule_lookup.specs.Lines.{lines_of};
 ghost use Rattle.rule_warnings.specs.Findings.{kinds_in, OnRefusal, RefusedBy, WarnFails};
 ghost use Rattle.rule_warnings.specs.Names.{names_host};
+ghost use Rattle.rule_warnings.specs.Tables.{line_under};
 ghost use Rattle.rule_warnings.specs.Warnings.{lines_report, report_of, table_report, trimmed_lines, warning_line, warnings_at, warnings_of, when, when_decided};
 ghost use Rattle.rule_warnings.specs.declared.report.WarnFault.TheVariants.{OutOfMemory};
 
@@ -18,19 +19,15 @@ use rule_lines::{Limits, LineFault, ParseFault};
 use rule_lookup::lines::{first_line, trim_blanks};
 use std::alloc::{AllocError, Global};
 use std::io::Write;
-use thiserror::Error;
 
 /// Why the warnings of a text are not all written.
-#[derive(Clone, Copy, Debug, Error)]
+#[derive(Clone, Copy)]
 pub enum WarnFault {
     /// The text is not accepted, and nothing was written.
-    #[error("{0}")]
     Line(LineFault),
     /// The writer failed; it may have taken some of them.
-    #[error("write fault")]
     WriteFault,
     /// There was no memory; some of them may be written.
-    #[error("out of memory")]
     OutOfMemory,
 }
 
@@ -106,7 +103,10 @@ fn write_lines<W: Write>(
     ensures warned { IfOk result (λ warned. warned ≡ not (length (lines_report text.now) == 0)) }
     ensures fault { IfErr result (λ fault. (fault ≡ WarnFault.WriteFault) ⊎ (fault ≡ WarnFault.OutOfMemory)) }
 {
-    let warned = write_each(alloc, text, limit, writer)?;
+    let mut seen = Seen::with_room(alloc, count_hosts(text))?;
+    let done = write_each(alloc, text, limit, &mut seen, writer);
+    drop(seen);
+    let warned = done?;
     write_found(writer, table_line(names_someone(text)), warned)?;
     Ok(warned)
 }
@@ -143,20 +143,21 @@ fn named_by(named: bool, line: &[u8]) -> bool
     named || names_host(line)
 }
 
-/// Writes the warnings of the lines of an accepted text that is not empty.
-fn write_each<W: Write>(
+/// Writes the warnings of the lines of an accepted text that is not empty, of whose addresses none was seen.
+fn write_each<'a, W: Write>(
     alloc: Global,
-    text: &[u8],
+    text: &'a [u8],
     limit: u64,
+    seen: &mut Seen<'a>,
     writer: &mut W,
 ) -> Result<bool, WarnFault>
     requires faultless { first_faulty limit 1 (lines_of text.now) ≡ None }
     requires some { 0 < length text.now }
+    requires unseen { (address : List ℕ) → line_under seen.old address ≡ None }
     ensures written { OnOk result (Appends (W.contents writer.old) (W.contents writer.new) (lines_report text.now)) }
     ensures warned { IfOk result (λ warned. warned ≡ not (length (lines_report text.now) == 0)) }
     ensures fault { IfErr result (λ fault. (fault ≡ WarnFault.WriteFault) ⊎ (fault ≡ WarnFault.OutOfMemory)) }
 {
-    let mut seen = Seen::with_room(alloc, count_hosts(text))?;
     let mut buffer = Vec::new(alloc);
     let mut lines = Vec::new(alloc);
     let mut warned = false;
@@ -166,14 +167,7 @@ fn write_each<W: Write>(
         let (line, after) = first_line(rest);
         number += 1;
         let is_last = after.is_empty();
-        let found = look_at(
-            alloc,
-            trim_blanks(line),
-            number,
-            is_last,
-            &mut seen,
-            &mut buffer,
-        )?;
+        let found = look_at(alloc, trim_blanks(line), number, is_last, seen, &mut buffer)?;
         lines.clear();
         append_found(&mut lines, number, &found)?;
         warned = write_found(writer, &lines, warned)?;

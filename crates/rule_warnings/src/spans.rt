@@ -1,13 +1,11 @@
 //! The numbers of ranges, and the parts of addresses that may be such a number.
-ghost use Rattle.std.specs.Prelude.{◌≡◌, ◌≤◌, ◌==◌, min, length, Some, None, MatchOption};
-ghost use Rattle.std.specs.List.{position_or_len};
+ghost use Rattle.std.specs.Prelude.{◌≡◌, ◌≤◌, min, length, Some, None, MatchOption};
 ghost use Rattle.std.specs.Option.{option_map_or};
 ghost use Rattle.rule_warnings.specs.Spans.{cut_at, cut_in, has_number, is_cut, is_front, line_among, line_in, octet_in, parts_of, sooner};
 
 use crate::client::contains;
 use itoa::Buffer;
-use memchr::memchr;
-use rule_lines::spread::{Numbers, number};
+use rule_lines::spread::{Numbers, next_dot, number};
 
 /// The numbers of a range, and the line that it stands in.
 #[derive(Clone, Copy)]
@@ -124,14 +122,6 @@ fn cut_in<'a>(front: &'a [u8], rest: &'a [u8]) -> Option<Cut<'a>>
         }),
         None => None,
     }
-}
-
-/// Where the first dot stands: at the end where there is none.
-fn next_dot(bytes: &[u8]) -> usize
-    ensures value { result ≡ position_or_len (λ b. b == 46) bytes.now }
-    ensures within { result ≤ length bytes.now }
-{
-    memchr(b'.', bytes).unwrap_or(bytes.len())
 }
 
 /// The number below 256 whose decimal text this is.

@@ -3,11 +3,9 @@ ghost use Rattle.std.specs.Prelude.{◌≡◌, ◌≢◌, ◌↔◌, IfOk};
 
 use dir_calls::Name;
 use std::marker::Model;
-use thiserror::Error;
 
 /// The two names are the same.
-#[derive(Clone, Copy, Debug, Error)]
-#[error("the rules file and the scratch file have one name")]
+#[derive(Clone, Copy)]
 pub struct SameName;
 
 /// The name of the rules file, and the scratch name, under which a new file is made.

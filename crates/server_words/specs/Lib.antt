@@ -6,7 +6,6 @@ pub mod Modes
 pub mod Operands
 pub mod Options
 pub mod Plans
-pub mod Usages
 pub mod Wrappings
 pub mod Letters
 pub mod Numbers

@@ -107,9 +107,13 @@ abbrev pub with_limits : Mode → Reading → Result ConnectionLimits WordFault 
 with_limits by_name read (Ok limits) = with_service by_name read.options limits (operands_in read.rest)
 with_limits by_name read (Err f) = Err (fault_of_word f)
 
+-- what options ask for, and the words after them
+abbrev pub plan_behind : Mode → Reading → Result ServerPlan ServerWordsFault
+plan_behind by_name read = with_limits by_name read (limits_in read.options)
+
 -- from the option words on
 abbrev pub with_options : Mode → Result Reading WordFault → Result ServerPlan ServerWordsFault
-with_options by_name (Ok read) = with_limits by_name read (limits_in read.options)
+with_options by_name (Ok read) = plan_behind by_name read
 with_options by_name (Err f) = Err (fault_of_word f)
 
 -- what words ask for, or the first fault that they have; without `-s` and `-S` the mode is that of the tool's name

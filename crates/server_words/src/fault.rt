@@ -1,5 +1,5 @@
 //! Why the words of `tcpserver` are refused, what is printed of it, and the exit code.
-ghost use Rattle.std.specs.Prelude.{◌≡◌, ◌++◌, encode_utf8};
+ghost use Rattle.std.specs.Prelude.{◌≡◌, ◌++◌};
 ghost use Rattle.byte_text.specs.Outcomes.{AppendsLine, AppendsPart};
 ghost use Rattle.server_words.specs.declared.fault.ServerWordsFault.TheVariants.{OutOfMemory};
 ghost use Rattle.server_words.specs.Faults.{exit_of, fault_line, fault_of_word, fault_text};
@@ -7,32 +7,26 @@ ghost use Rattle.server_words.specs.Faults.{exit_of, fault_line, fault_of_word, 
 use crate::WordFault;
 use byte_text::{push_text, whole_or_none};
 use std::alloc::{AllocError, AllocFailed};
-use thiserror::Error;
+use std::error::Error;
+use std::fmt;
 
 /// What is wrong with the words of `tcpserver`. Where several things are, the first of them counts: the option words in their order,
 /// then the numbers in the order of `ConnectionLimits`, then host, port and program, then the wrappers.
-#[derive(Clone, Copy, PartialEq, Eq, Debug, Error)]
+#[derive(Clone, Copy, PartialEq, Eq, Debug)]
 pub enum ServerWordsFault {
     /// There is no such option.
-    #[error("unknown option -{0}")]
     UnknownOption(char),
     /// The option takes a value, and nothing follows it.
-    #[error("option -{0} needs a value")]
     NoValue(char),
     /// The original `tcpserver` has the option, and this one refuses it. It needs no value for that.
-    #[error("option -{0} is not in this profile")]
     NotInProfile(char),
     /// The option's value is no number in its range.
-    #[error("option -{0} has a bad number")]
     BadNumber(char),
     /// The words after the options are no host, port and program.
-    #[error("usage: tcpserver [options] host port prog [args]")]
     Usage,
     /// The value of `-w` does not name wrappers.
-    #[error("bad wrappers")]
     BadWrappers,
     /// There was no memory for what the words ask for.
-    #[error("out of memory")]
     OutOfMemory,
 }
 
@@ -60,24 +54,39 @@ impl ServerWordsFault {
     fn push_fault(self, out: &mut Vec<u8>) -> Result<(), AllocError>
         ensures { AppendsPart (fault_text self) out.old.items out.new.items result }
     {
+        let mut buffer = [0u8; 4];
+        let (before, letter, after) = self.parts(&mut buffer);
+        push_text(out, before)?;
+        push_text(out, letter)?;
+        push_text(out, after)
+    }
+
+    /// What is told of the fault: a text, the letter of an option if it is about one, and the text behind that.
+    fn parts(self, buffer: &mut [u8; 4]) -> (&'static str, &str, &'static str)
+        ensures { result.0.now ++ result.1.now ++ result.2.now ≡ fault_text self }
+    {
         match self {
             ServerWordsFault::UnknownOption(letter) => {
-                push_letter(out, "unknown option -", letter, "")
+                ("unknown option -", letter.encode_utf8(buffer), "")
             }
             ServerWordsFault::NoValue(letter) => {
-                push_letter(out, "option -", letter, " needs a value")
+                ("option -", letter.encode_utf8(buffer), " needs a value")
             }
             ServerWordsFault::NotInProfile(letter) => {
-                push_letter(out, "option -", letter, " is not in this profile")
+                (
+                    "option -",
+                    letter.encode_utf8(buffer),
+                    " is not in this profile",
+                )
             }
             ServerWordsFault::BadNumber(letter) => {
-                push_letter(out, "option -", letter, " has a bad number")
+                ("option -", letter.encode_utf8(buffer), " has a bad number")
             }
             ServerWordsFault::Usage => {
-                push_text(out, "usage: tcpserver [options] host port prog [args]")
+                ("usage: tcpserver [options] host port prog [args]", "", "")
             }
-            ServerWordsFault::BadWrappers => push_text(out, "bad wrappers"),
-            ServerWordsFault::OutOfMemory => push_text(out, "out of memory"),
+            ServerWordsFault::BadWrappers => ("bad wrappers", "", ""),
+            ServerWordsFault::OutOfMemory => ("out of memory", "", ""),
         }
     }
 
@@ -92,15 +101,17 @@ impl ServerWordsFault {
     }
 }
 
-/// Adds an option's letter between two texts.
-fn push_letter(out: &mut Vec<u8>, before: &str, letter: char, after: &str) -> Result<(), AllocError>
-    ensures { AppendsPart (before.now ++ encode_utf8 letter ++ after.now) out.old.items out.new.items result }
-{
-    let mut buffer = [0u8; 4];
-    push_text(out, before)?;
-    push_text(out, letter.encode_utf8(&mut buffer))?;
-    push_text(out, after)
+impl fmt::Display for ServerWordsFault {
+    fn fmt<W: fmt::Write>(&self, f: &mut fmt::Formatter<W>) -> fmt::Result {
+        let mut buffer = [0u8; 4];
+        let (before, letter, after) = self.parts(&mut buffer);
+        f.write_str(before)?;
+        f.write_str(letter)?;
+        f.write_str(after)
+    }
 }
+
+impl Error for ServerWordsFault {}
 
 impl From<WordFault> for ServerWordsFault {
     ghost from_gives = { λ fault e. e ≡ fault_of_word fault };

@@ -17,7 +17,7 @@ pub enum Level {
 
 impl Level {
     /// The level that options ask for.
-    pub(crate) fn of(options: &Options<'_>) -> Level
+    pub fn of(options: &Options<'_>) -> Level
         ensures { result ≡ level_of options.now }
     {
         match options.last_of(&['v', 'Q', 'q']) {

@@ -73,7 +73,7 @@ impl<'a> Operands<'a> {
 }
 
 /// The address that a host stands for.
-pub(crate) fn address_of(host: &str) -> Option<[u8; 4]>
+pub fn address_of(host: &str) -> Option<[u8; 4]>
     ensures { result ≡ address_in host.now }
 {
     match host {
@@ -84,7 +84,7 @@ pub(crate) fn address_of(host: &str) -> Option<[u8; 4]>
 }
 
 /// The port that a word is.
-pub(crate) fn port_of(word: &str) -> Option<u16>
+pub fn port_of(word: &str) -> Option<u16>
     ensures { result ≡ port_in word.now }
 {
     let port = number_in(word, 0, 65_535)?;

@@ -4,7 +4,7 @@ ghost use Rattle.server_words.specs.OptionWords.{text_of};
 ghost use Rattle.server_words.specs.Words.{Refuses};
 ghost use Rattle.server_words.specs.Operands.{texts};
 ghost use Rattle.server_words.specs.Options.{is_last};
-ghost use Rattle.server_words.specs.Plans.{RefusesPlan, missing_of, options_in, plan_by, plan_of};
+ghost use Rattle.server_words.specs.Plans.{RefusesPlan, missing_of, options_in, plan_behind, plan_of};
 
 use crate::fault::ServerWordsFault;
 use crate::level::Level;
@@ -76,22 +76,11 @@ pub fn read_server_words(
     ensures refused { IfErr result (RefusesPlan (plan_of by_name (texts words.now))) }
 {
     let (options, rest) = read_options(alloc, words)?;
-    let limits = ConnectionLimits::of(&options)?;
-    let Some(service) = Operands::of(rest) else {
-        return Err(ServerWordsFault::Usage);
-    };
-    let wrapping = Wrapping::of(alloc, options.value('w'))?;
-    let Some(mode) = Mode::of(&options, by_name) else {
-        return Err(ServerWordsFault::BadWrappers);
-    };
-    Ok(ServerWords::of(&options, limits, service, wrapping, mode))
+    ServerWords::of(alloc, &options, rest, by_name)
 }
 
 /// The options at the start of the words, and the words after them.
-pub(crate) fn read_options(
-    alloc: Global,
-    words: &[String],
-) -> Result<(Options<'_>, &[String]), WordFault>
+fn read_options(alloc: Global, words: &[String]) -> Result<(Options<'_>, &[String]), WordFault>
     ensures read { IfOk result (λ r. options_in (texts words.now)
         ≡ Ok (record { options = r.0; rest = texts r.1.now })) }
     ensures refused { IfErr result (Refuses (options_in (texts words.now))) }
@@ -111,17 +100,28 @@ fn is_last(options: &Options<'_>, letter: char, other: char) -> bool
 }
 
 impl<'a> ServerWords<'a> {
-    /// What these options ask for, with what was read of their numbers, of the wrappers, of the mode and of the words after them.
+    /// What these options ask for, and the words after them.
     fn of(
+        alloc: Global,
         options: &Options<'a>,
-        limits: ConnectionLimits,
-        service: Operands<'a>,
-        wrapping: Wrapping,
-        mode: Mode,
-    ) -> ServerWords<'a>
-        ensures { result ≡ plan_by options.now limits service.entry wrapping mode }
+        rest: &'a [String],
+        by_name: Mode,
+    ) -> Result<ServerWords<'a>, ServerWordsFault>
+        ensures read { IfOk result (λ plan. plan_behind by_name (record { options = options.now; rest = texts rest.now })
+            ≡ Ok plan) }
+        ensures refused { IfErr result
+            (RefusesPlan (plan_behind by_name (record { options = options.now; rest = texts rest.now }))) }
     {
-        ServerWords {
+        let limits = ConnectionLimits::of(options)?;
+        let Some(service) = Operands::of(rest) else {
+            return Err(ServerWordsFault::Usage);
+        };
+        let wrapping = Wrapping::of(alloc, options.value('w'))?;
+        let Some(mode) = Mode::of(options, by_name) else {
+            drop(wrapping);
+            return Err(ServerWordsFault::BadWrappers);
+        };
+        Ok(ServerWords {
             level: Level::of(options),
             prints_port: options.has('1'),
             limits,
@@ -136,7 +136,7 @@ impl<'a> ServerWords<'a> {
             mode,
             wrapping,
             service,
-        }
+        })
     }
 
     /// Which lines of the log are printed (`-v`, `-Q`, `-q`).

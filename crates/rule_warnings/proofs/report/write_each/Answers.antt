@@ -9,7 +9,7 @@ use Rattle.rule_warnings.proofs.report.write_each.Goals as goal
 
 pub loop-rest-init : goal.loop-rest-init
 loop-rest-init g c =
-    written-none c.args.limit c.args.text.now (line_under c.in_ok-seen.seen) (g.W.Write.contents c.args.writer.now) c.in_ok-seen.ensures c.requires.faultless
+    written-none c.args.limit c.args.text.now (line_under c.args.seen.now) (g.W.Write.contents c.args.writer.now) c.requires.unseen c.requires.faultless
 
 pub look_at-requires : goal.look_at-requires
 look_at-requires g c =

@@ -14,8 +14,8 @@ returns-in_default g c =
           let count = c.min-count.result in
           let long = length-bytes_at file (value_position c.args.stored) c.args.stored.value_len (c.requires.inside honest) in
           let within : done + count ≤ c.args.stored.value_len = grind (arith, c.min-count.ensures) in
-          let piece = rw c.value_position.ensures at (c.in-Ok.ensures.bytes honest) in
-          refused-text (value_of file c.args.stored) c.in-Ok.piece.items done count c.loop-done.stage (c.loop-done.invariant.on honest)
+          let piece = rw c.value_position.ensures at (c.in_ok-piece.ensures.bytes honest) in
+          refused-text (value_of file c.args.stored) c.in_ok-piece.piece.items done count c.loop-done.stage (c.loop-done.invariant.on honest)
           (piece ∙ piece_of file (value_position c.args.stored) c.args.stored.value_len done count (c.requires.inside honest) within) (omega arith)
           (λ rest ends. rw c.deref.ensures.value at (c.in_default.ensures rest (λ last. ends (eqb-true _ _ last ∙ sym long))));
     }
@@ -29,11 +29,11 @@ returns-then-is_no_code g c =
           let count = c.min-count.result in
           let long = length-bytes_at file (value_position c.args.stored) c.args.stored.value_len (c.requires.inside honest) in
           let within : done + count ≤ c.args.stored.value_len = grind (arith, c.min-count.ensures) in
-          let piece = rw c.value_position.ensures at (c.in-Ok.ensures.bytes honest) in
+          let piece = rw c.value_position.ensures at (c.in_ok-piece.ensures.bytes honest) in
           let front = rw c.deref.ensures.value at c.in-Some.ensures in
-          refused-stage (value_of file c.args.stored) c.in-Ok.piece.items done count c.loop-done.stage (c.loop-done.invariant.on honest)
+          refused-stage (value_of file c.args.stored) c.in_ok-piece.piece.items done count c.loop-done.stage (c.loop-done.invariant.on honest)
           (piece ∙ piece_of file (value_position c.args.stored) c.args.stored.value_len done count (c.requires.inside honest) within) (omega arith)
-          c.in-Some.front (omega (arith, front.1, c.in-Ok.ensures.length))
+          c.in-Some.front (omega (arith, front.1, c.in_ok-piece.ensures.length))
           (rw (c.from-stage.ensures, c.deref-in-loop-done.ensures.value) at (c.is_no_code.ensures c.if-is_no_code.true));
     }
 
@@ -44,14 +44,14 @@ loop-done-preserved g c =
     let within : done + count ≤ c.args.stored.value_len = grind (arith, c.min-count.ensures) in
     let front = rw c.deref.ensures.value at c.in-Some.ensures in
     record {
-      inside = omega (arith, front.1, c.in-Ok.ensures.length);
+      inside = omega (arith, front.1, c.in_ok-piece.ensures.length);
       on = λ honest.
           let file = g.F.RulesFile.bytes c.args.self.now in
           let long = length-bytes_at file (value_position c.args.stored) c.args.stored.value_len (c.requires.inside honest) in
-          let piece = rw c.value_position.ensures at (c.in-Ok.ensures.bytes honest) in
-          let next = GoesOn-next (value_of file c.args.stored) c.in-Ok.piece.items done count c.loop-done.stage (c.loop-done.invariant.on honest)
+          let piece = rw c.value_position.ensures at (c.in_ok-piece.ensures.bytes honest) in
+          let next = GoesOn-next (value_of file c.args.stored) c.in_ok-piece.piece.items done count c.loop-done.stage (c.loop-done.invariant.on honest)
           (piece ∙ piece_of file (value_position c.args.stored) c.args.stored.value_len done count (c.requires.inside honest) within) (omega arith)
-          c.in-Some.front (omega (arith, front.1, c.in-Ok.ensures.length)) front.2 in
+          c.in-Some.front (omega (arith, front.1, c.in_ok-piece.ensures.length)) front.2 in
           rw (c.from-stage.ensures, c.deref-in-loop-done.ensures.value) next;
     }
 

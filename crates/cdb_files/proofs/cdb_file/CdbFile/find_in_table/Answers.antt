@@ -3,7 +3,7 @@ use Rattle.std.proofs.lemmas.Result.{err_from_is_err_and}
 use Rattle.cdb_files.specs.Format.{hash_of}
 use Rattle.cdb_files.specs.Slots.{probe}
 use Rattle.cdb_files.specs.Parts.{found_in_slots, slots_from}
-use Rattle.cdb_files.proofs.FaultLemmas.{IsFault-at}
+use Rattle.cdb_files.proofs.FaultLemmas.{IsFault-at, IsFault-read}
 use Rattle.cdb_files.proofs.ProbeLemmas.{IsNext, found-empty, found-other_hash, found-other_key, found-record, found_in_probe-drop, found_in_probe-drop_all}
 use Rattle.cdb_files.proofs.cdb_file.CdbFile.find_in_table.Given as given
 use Rattle.cdb_files.proofs.cdb_file.CdbFile.find_in_table.Goals as goal
@@ -22,6 +22,12 @@ next g c honest =
           sym (c.loop-passed.invariant.left honest)
           ∙ found_in_probe-drop (hash_of c.args.key.now) (g.F.RulesFile.bytes c.args.self.now) c.args.table c.args.slots c.requires.some_slots c.args.key.now c.loop-passed.passed _ _ (omega arith) (cc) (c.in_ok-slot_hash.ensures.numbers honest);
     }
+
+pub returns-in_err-slot_hash-clause-fault : goal.returns-in_err-slot_hash-clause-fault
+returns-in_err-slot_hash-clause-fault g c =
+    let found = found_in_slots (g.F.RulesFile.bytes c.args.self.now) c.args.key.now (c.args.table, c.args.slots) in
+    let returned = err_from_is_err_and c.from_residual.result c.from_residual.ensures.1 in
+    rw (returned.1, returned.2) (IsFault-read g.F.RulesFile.honest g.F.RulesFile.sound found c.in_err-slot_hash.field-0.0 c.in_err-slot_hash.ensures.fault)
 
 pub returns-then-position-eq0-clause-found : goal.returns-then-position-eq0-clause-found
 returns-then-position-eq0-clause-found g c = λ honest.

@@ -1,8 +1,6 @@
-use Rattle.std.proofs.Common.{◌≡◌, ◌++◌}
-use Rattle.std.specs.Prelude.{encode_utf8}
 use Rattle.byte_text.proofs.Appends.{first, next, last, renamed}
 use Rattle.byte_text.proofs.CutParts.{cut_first, cut_later}
-use Rattle.server_words.proofs.fault.push_letter.Goals as goal
+use Rattle.server_words.proofs.fault.ServerWordsFault.push_fault.Goals as goal
 
 pub returns-in_err-push_text : goal.returns-in_err-push_text
 returns-in_err-push_text c =
@@ -17,5 +15,4 @@ pub returns : goal.returns
 returns c =
     let so_far_1 = first c.args.out.now.items _ c.in_ok-push_text.ensures in
     let so_far_2 = next _ so_far_1 c.in_ok-push_text-2.ensures in
-    let same : c.args.before.now ++ c.encode_utf8.result.now ++ c.args.after.now ≡ c.args.before.now ++ encode_utf8 c.args.letter ++ c.args.after.now = rw c.encode_utf8.ensures.value in
-    renamed _ c.push_text-3.new.out.items c.push_text-3.result same (last _ c.push_text-3.new.out.items c.push_text-3.result so_far_2 c.push_text-3.ensures)
+    renamed _ c.push_text-3.new.out.items c.push_text-3.result c.parts.ensures (last _ c.push_text-3.new.out.items c.push_text-3.result so_far_2 c.push_text-3.ensures)

@@ -1,7 +1,7 @@
 -- A range has as many addresses as numbers.
 use Rattle.std.proofs.Common.{◌∙◌, sym}
 use Rattle.rule_lines.proofs.RowLemmas.{length-addresses_under}
-use Rattle.rule_lines.proofs.kept.count_in.Goals as goal
+use Rattle.rule_lines.proofs.spread.count_in.Goals as goal
 
 pub returns-in-Range : goal.returns-in-Range
 returns-in-Range c =
