@@ -7,16 +7,13 @@ ghost use Rattle.byte_streams.specs.declared.chain.ChainFault.TheVariants.{Faile
 use crate::wrappers::LineWrapper;
 use std::alloc::{AllocError, Global};
 use std::mem;
-use thiserror::Error;
 
 /// Why a chain refuses a piece.
-#[derive(Clone, Copy, Debug, Error)]
+#[derive(Clone, Copy)]
 pub enum ChainFault {
     /// A call since the last `renew` met want of memory, or was `finish`.
-    #[error("the chain has failed or is finished")]
     Failed,
     /// There was no memory.
-    #[error("out of memory")]
     OutOfMemory,
 }
 

@@ -22,7 +22,7 @@ const FIRST: usize = 4 * 1024;
 const MOST: usize = 64 * 1024;
 
 /// Why a pump ended.
-#[derive(Clone, Copy, Debug)]
+#[derive(Clone, Copy)]
 pub enum Why {
     /// The reader has nothing left, and all was written.
     End,
@@ -41,7 +41,7 @@ pub enum Why {
 }
 
 /// How a pump ended.
-#[derive(Clone, Copy, Debug)]
+#[derive(Clone, Copy)]
 pub struct PumpEnd {
     /// How many bytes were read, up to 2^64 - 1.
     pub taken: u64,

@@ -3,25 +3,32 @@ ghost use Rattle.std.specs.Prelude.{◌≡◌};
 ghost use Rattle.dir_calls.specs.declared.fault.DirFault.TheVariants.{OutOfMemory};
 
 use std::alloc::{AllocError, AllocFailed};
-use thiserror::Error;
+use std::fmt;
 
 /// Why a call of a directory failed.
-#[derive(Clone, Copy, Debug, Error)]
+#[derive(Clone, Copy, Debug)]
 pub enum DirFault {
     /// There is no scratch file. Nothing changed.
-    #[error("no scratch file")]
     NoScratch,
     /// There is no such name. Nothing changed.
-    #[error("no such name")]
     NoName,
     /// The device failed. The names are those before the call or those after it. After a `fresh` they may also lack its
     /// name. A failed settling keeps the names, and may have settled some of the first pending changes. Synced files
     /// are as before, and nothing is known of others.
-    #[error("device fault")]
     Device,
     /// There was no memory. Nothing changed.
-    #[error("out of memory")]
     OutOfMemory,
+}
+
+impl fmt::Display for DirFault {
+    fn fmt<W: fmt::Write>(&self, f: &mut fmt::Formatter<W>) -> fmt::Result {
+        f.write_str(match self {
+            DirFault::NoScratch => "no scratch file",
+            DirFault::NoName => "no such name",
+            DirFault::Device => "device fault",
+            DirFault::OutOfMemory => "out of memory",
+        })
+    }
 }
 
 impl From<AllocError> for DirFault {

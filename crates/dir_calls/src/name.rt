@@ -4,31 +4,23 @@ ghost use Rattle.dir_calls.specs.Names.{name_fault, is_dots as dots_test};
 
 use std::alloc::{AllocError, Global};
 use std::marker::Model;
-use thiserror::Error;
 
 /// Why bytes are no name.
-#[derive(Clone, Copy, Debug, Error)]
+#[derive(Clone, Copy)]
 pub enum NameFault {
     /// There are no bytes.
-    #[error("the name is empty")]
     Empty,
     /// There are over 255 bytes.
-    #[error("the name is over 255 bytes")]
     TooLong,
     /// A slash is among them.
-    #[error("the name has a slash")]
     Slash,
     /// A zero byte is among them.
-    #[error("the name has a zero byte")]
     Nul,
     /// They are `.` or `..`.
-    #[error("the name is . or ..")]
     Dots,
     /// They are not UTF-8.
-    #[error("the name is not UTF-8")]
     NotText,
     /// There was no memory to keep the name, if they are one.
-    #[error("out of memory")]
     OutOfMemory,
 }
 

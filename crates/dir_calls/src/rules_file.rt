@@ -2,11 +2,8 @@
 ghost use Rattle.std.specs.Prelude.{◌≡◌, ◌≤◌, List, ℕ, Bool, length, IfOk, IsOk, IsTrue};
 ghost use Rattle.dir_calls.specs.Files.{Gives};
 
-use thiserror::Error;
-
 /// A device failed.
-#[derive(Clone, Copy, PartialEq, Debug, Error)]
-#[error("device fault")]
+#[derive(Clone, Copy)]
 pub struct DeviceFault;
 
 /// An opened file. Its bytes never change, whatever becomes of its name.

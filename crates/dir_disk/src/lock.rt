@@ -105,6 +105,14 @@ fn is_taken(error: &io::Error) -> bool {
     error.kind() == ErrorKind::WouldBlock
 }
 
+// The answer of a call. An error of this kind says that another process has the file.
+fn unless_taken<T>(outcome: io::Result<T>, kind: ErrorKind) -> io::Result<T> {
+    match outcome {
+        Err(error) if error.kind() == kind => Err(taken()),
+        outcome => outcome,
+    }
+}
+
 // Makes a new file at a path, and locks it. Another process may have found and taken it away before it was locked.
 fn make_held<R: Files<File = File>>(files: &R, path: &str, mode: u32) -> io::Result<File> {
     let made = OpenOptions::new()
@@ -113,10 +121,7 @@ fn make_held<R: Files<File = File>>(files: &R, path: &str, mode: u32) -> io::Res
         .create_new(true)
         .mode(mode)
         .open(files, path);
-    let file = match made {
-        Err(error) if error.kind() == ErrorKind::AlreadyExists => return Err(taken()),
-        made => made?,
-    };
+    let file = unless_taken(made, ErrorKind::AlreadyExists)?;
     match hold(files, &file, path) {
         Ok(true) => Ok(file),
         Ok(false) => Err(taken()),
@@ -144,10 +149,7 @@ fn take_free<R: Files<File = File>>(files: &R, path: &str) -> io::Result<()> {
     }
     // (if a pipe was put there meanwhile, opening it to read and write does not wait)
     let opened = OpenOptions::new().read(true).write(true).open(files, path);
-    let file = match opened {
-        Err(error) if error.kind() == ErrorKind::PermissionDenied => return Err(taken()),
-        opened => opened?,
-    };
+    let file = unless_taken(opened, ErrorKind::PermissionDenied)?;
     if !hold(files, &file, path)? && !is_read_alone(files, &file, path)? {
         return Err(taken());
     }

@@ -16,6 +16,7 @@ ghost use Rattle.std.proofs.Common.{subst, sym};
 
 use crate::claims::{Alone, Claims};
 use crate::disk::Disk;
+use crate::failure::DiskFailure;
 use crate::lock::{Locked, Waits};
 use crate::os_file::OsFile;
 use crate::patient::{TRIES, is_file, move_name, not_opened, opened, remove_name, settle};
@@ -23,24 +24,31 @@ use crate::scratch::{BUFFER, give_up, make_room, overwrite, renew, sync_kept};
 use crate::system_disk::{ClaimedDisk, SystemDisk};
 use dir_calls::{ClearableDir, Dir, DirFault, Name};
 use std::alloc::{AllocError, Global};
+use std::fmt;
 use std::fs::{File, Files};
 use std::io::{self, ErrorKind};
 use std::os::unix::fs::FileExt;
-use thiserror::Error;
 
 /// Why a folder can't be used.
-#[derive(Clone, Copy, Debug, Error)]
+#[derive(Clone, Copy)]
 pub enum FolderFault {
     /// There is nothing at the path, or something other than a folder.
-    #[error("no such folder")]
     NoFolder,
     /// The system does not say what stands at the path, for instance because a folder on the way may not be searched.
     /// So there may be a folder.
-    #[error("device fault")]
     Device,
     /// There was no memory.
-    #[error("out of memory")]
     OutOfMemory,
+}
+
+impl fmt::Display for FolderFault {
+    fn fmt<W: fmt::Write>(&self, f: &mut fmt::Formatter<W>) -> fmt::Result {
+        f.write_str(match self {
+            FolderFault::NoFolder => "no such folder",
+            FolderFault::Device => "device fault",
+            FolderFault::OutOfMemory => "out of memory",
+        })
+    }
 }
 
 impl From<AllocError> for FolderFault {
@@ -209,6 +217,16 @@ where
     {
         let disk = ClaimedDisk::new(alloc, files, Alone, folder)?;
         DiskDir::over(alloc, disk)
+    }
+}
+
+impl<R: Files + Drop, C: Claims<R> + Drop> DiskDir<ClaimedDisk<R, C>>
+where
+    R::File: FileExt,
+{
+    /// The last call of the system, if it failed: `ClaimedDisk::failure` of the disk.
+    pub fn failure(&self) -> Option<DiskFailure> {
+        self.disk.failure()
     }
 }
 

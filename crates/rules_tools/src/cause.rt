@@ -5,7 +5,7 @@ ghost use Rattle.rules_tools.specs.Causes.{cause_of};
 use dir_disk::{DiskFailure, FailedOn};
 
 /// What the system was asked for when it failed.
-#[derive(Clone, Copy, PartialEq, Eq, Debug)]
+#[derive(Clone, Copy)]
 pub enum CauseOf {
     /// Bytes of standard input.
     Input,
@@ -20,7 +20,7 @@ pub enum CauseOf {
 }
 
 /// Why a call of the system failed.
-#[derive(Clone, Copy, PartialEq, Eq, Debug)]
+#[derive(Clone, Copy)]
 pub struct ErrorCause {
     /// What it was asked for.
     pub of: CauseOf,

@@ -125,7 +125,7 @@ where
     }
 
     fn failed(&mut self, folder: &OsDir<&'a S>) {
-        self.cause = ErrorCause::of_look_up(folder.disk().failure());
+        self.cause = ErrorCause::of_look_up(folder.failure());
     }
 
     fn cause(&self) -> Option<ErrorCause> {
@@ -164,6 +164,6 @@ where
     }
 
     fn close(&mut self, dir: LockedDir<&'a S, Waiting<'a, S, E>>) -> Option<ErrorCause> {
-        ErrorCause::of_installation(dir.disk().failure())
+        ErrorCause::of_installation(dir.failure())
     }
 }

@@ -68,8 +68,10 @@ pub fn install_named<R: Read, D: ClearableDir>(
     let mut install = compile(alloc, reader, names)?;
     // a law: the file that is compiled of a text decides as the text does
     decides();
-    install_begun(alloc, folder, &mut install, &scratch)?;
-    Ok(())
+    let outcome = install_begun(alloc, folder, &mut install, &scratch);
+    drop(install);
+    drop(scratch);
+    Ok(outcome?)
 }
 
 /// Reads a rule text to its end and compiles it, for an installation under these names.

@@ -9,24 +9,32 @@ use crate::tcprules::{TcprulesFault, read_text};
 use rule_lines::{Limits, LineFault};
 use rule_warnings::{WarnFault, write_warnings};
 use std::alloc::Global;
+use std::fmt;
+use std::fmt::Display;
 use std::io::{Read, Write};
-use thiserror::Error;
 
 /// Why a text is not looked over to its end.
-#[derive(Clone, Copy, PartialEq, Eq, Debug, Error)]
+#[derive(Clone, Copy)]
 pub enum ReviewFault {
     /// Standard input could not be read.
-    #[error("read fault")]
     ReadFault,
     /// The text is not accepted.
-    #[error("{0}")]
     Text(LineFault),
     /// A warning could not be written.
-    #[error("write fault")]
     WriteFault,
     /// There was no memory.
-    #[error("out of memory")]
     OutOfMemory,
+}
+
+impl Display for ReviewFault {
+    fn fmt<W: fmt::Write>(&self, f: &mut fmt::Formatter<W>) -> fmt::Result {
+        match self {
+            ReviewFault::ReadFault => f.write_str("read fault"),
+            ReviewFault::Text(fault) => fault.fmt(f),
+            ReviewFault::WriteFault => f.write_str("write fault"),
+            ReviewFault::OutOfMemory => f.write_str("out of memory"),
+        }
+    }
 }
 
 impl From<WarnFault> for ReviewFault {

@@ -20,39 +20,47 @@ use dir_calls::{Name, NameFault, Phase};
 use rule_lines::{LineFault, LineKind, ParseFault};
 use rules_install::{FileNames, InstallFault};
 use std::alloc::{AllocError, Global};
+use std::fmt;
+use std::fmt::Display;
 use std::io::{ErrorKind, Read};
-use thiserror::Error;
 
 /// Why `tcprules` fails. Of several the first in this order is told.
-#[derive(Clone, Copy, PartialEq, Eq, Debug, Error)]
+#[derive(Clone, Copy)]
 pub enum TcprulesFault {
     /// The last part of a path is no name of a file.
-    #[error("bad file name")]
     BadName,
     /// The paths name different folders.
-    #[error("cdb and tmp are in different folders")]
     OtherFolder,
     /// The paths name one file.
-    #[error("cdb and tmp are the same name")]
     SameName,
     /// Standard input could not be read.
-    #[error("read fault")]
     ReadFault,
     /// A line of the text is faulty.
-    #[error("{0}")]
     Line(LineFault),
     /// The text is over its limit.
-    #[error("{kind}", kind = LineKind::LongText)]
     LongText,
     /// The compiled file would be over its limit.
-    #[error("compiled file too large")]
     TooLarge,
     /// The disk failed on the way to this phase of the installation.
-    #[error("device fault at {0}")]
     Device(Phase),
     /// There was no memory.
-    #[error("out of memory")]
     OutOfMemory,
+}
+
+impl Display for TcprulesFault {
+    fn fmt<W: fmt::Write>(&self, f: &mut fmt::Formatter<W>) -> fmt::Result {
+        match self {
+            TcprulesFault::BadName => f.write_str("bad file name"),
+            TcprulesFault::OtherFolder => f.write_str("cdb and tmp are in different folders"),
+            TcprulesFault::SameName => f.write_str("cdb and tmp are the same name"),
+            TcprulesFault::ReadFault => f.write_str("read fault"),
+            TcprulesFault::Line(fault) => fault.fmt(f),
+            TcprulesFault::LongText => LineKind::LongText.fmt(f),
+            TcprulesFault::TooLarge => f.write_str("compiled file too large"),
+            TcprulesFault::Device(phase) => write!(f, "device fault at {phase}"),
+            TcprulesFault::OutOfMemory => f.write_str("out of memory"),
+        }
+    }
 }
 
 impl From<AllocError> for TcprulesFault {
@@ -89,7 +97,7 @@ impl From<ParseFault> for TcprulesFault {
 }
 
 /// Why a run of `tcprules` failed, and of what a fault of the system came, where the system has told that.
-#[derive(Clone, Copy, PartialEq, Eq, Debug)]
+#[derive(Clone, Copy)]
 pub struct RulesFailure {
     /// Why.
     pub fault: TcprulesFault,

@@ -21,12 +21,11 @@ use rule_lookup::{
     DecideFault, Decision, FindFault, Found, Peer, WhenMissing, append_answer, decide,
 };
 use std::alloc::{AllocError, Global};
-use std::error::Error;
 use std::fmt;
 use std::io::Write;
 
 /// Why `tcprulescheck` tells no decision. Of several the first in this order is told.
-#[derive(Clone, Copy, PartialEq, Eq, Debug)]
+#[derive(Clone, Copy)]
 pub enum CheckFault {
     /// `TCPREMOTEIP` is no IPv4 address.
     BadIp,
@@ -48,10 +47,9 @@ pub enum CheckFault {
     OutOfMemory,
 }
 
-impl CheckFault {
-    // What is printed of it.
-    fn text(self) -> &'static str {
-        match self {
+impl fmt::Display for CheckFault {
+    fn fmt<W: fmt::Write>(&self, f: &mut fmt::Formatter<W>) -> fmt::Result {
+        f.write_str(match self {
             CheckFault::BadIp => "bad TCPREMOTEIP",
             CheckFault::BadHost => "bad TCPREMOTEHOST",
             CheckFault::BadInfo => "bad TCPREMOTEINFO",
@@ -61,17 +59,9 @@ impl CheckFault {
             CheckFault::Damaged => "damaged file",
             CheckFault::WriteFault => "write fault",
             CheckFault::OutOfMemory => "out of memory",
-        }
+        })
     }
 }
-
-impl fmt::Display for CheckFault {
-    fn fmt<W: fmt::Write>(&self, f: &mut fmt::Formatter<W>) -> fmt::Result {
-        f.write_str(self.text())
-    }
-}
-
-impl Error for CheckFault {}
 
 impl From<AllocError> for CheckFault {
     ghost from_gives = { λ _ fault. fault ≡ OutOfMemory };
@@ -82,7 +72,7 @@ impl From<AllocError> for CheckFault {
 }
 
 /// Why a run of `tcprulescheck` failed, and of what a fault of the system came, where the system has told that.
-#[derive(Clone, Copy, PartialEq, Eq, Debug)]
+#[derive(Clone, Copy)]
 pub struct CheckFailure {
     /// Why.
     pub fault: CheckFault,

@@ -121,6 +121,7 @@ fn judge_verdict(
     sums.told += 1;
     let peer = asked(alloc, &told.peer)?;
     let now = standing.decide(alloc, &peer)?;
+    drop(peer);
     if !differ(told.verdict, now.verdict) {
         return Ok(Vec::new(alloc));
     }

@@ -18,22 +18,28 @@ use std::marker::Brand;
 use std::snapshot::Snapshot;
 use std::sync::Wait;
 use std::sync::ledger::{Blank, Ledger};
-use std::thread;
 use std::thread::{Promise, Threads};
-use thiserror::Error;
+use std::{fmt, thread};
 
 /// Why a program could not be run between pumps.
-#[derive(Clone, Copy, Debug, Error)]
+#[derive(Clone, Copy, Debug)]
 pub enum BetweenFault {
     /// It could not be started, gave no pipe ends, or its input got no thread.
-    #[error("cannot start")]
     CannotStart,
     /// It could not be waited for.
-    #[error("device fault")]
     Device,
     /// There was no memory.
-    #[error("out of memory")]
     OutOfMemory,
+}
+
+impl fmt::Display for BetweenFault {
+    fn fmt<W: fmt::Write>(&self, f: &mut fmt::Formatter<W>) -> fmt::Result {
+        f.write_str(match self {
+            BetweenFault::CannotStart => "cannot start",
+            BetweenFault::Device => "device fault",
+            BetweenFault::OutOfMemory => "out of memory",
+        })
+    }
 }
 
 impl From<AllocError> for BetweenFault {

@@ -9,8 +9,8 @@ ghost use Rattle.stream_tools.specs.declared.filter.FilterFault.TheVariants.{Out
 
 use byte_streams::{AddCr, Chain, DelCr, LineWrapper, NoTap, Why, pump};
 use std::alloc::{AllocError, Global};
+use std::fmt;
 use std::io::{Read, Write};
-use thiserror::Error;
 
 /// How many reads a pump of a tool makes at most.
 pub const MOST_READS: u64 = 1 << 40;
@@ -18,17 +18,24 @@ pub const MOST_READS: u64 = 1 << 40;
 const _: () = prove!(MOST_READS == 1_099_511_627_776);
 
 /// Why a stream was not passed on to its end.
-#[derive(Clone, Copy, Debug, Error)]
+#[derive(Clone, Copy)]
 pub enum FilterFault {
     /// It could not be read, or took more than 2^40 reads.
-    #[error("read fault")]
     ReadFault,
     /// It could not be written.
-    #[error("write fault")]
     WriteFault,
     /// There was no memory.
-    #[error("out of memory")]
     OutOfMemory,
+}
+
+impl fmt::Display for FilterFault {
+    fn fmt<W: fmt::Write>(&self, f: &mut fmt::Formatter<W>) -> fmt::Result {
+        f.write_str(match self {
+            FilterFault::ReadFault => "read fault",
+            FilterFault::WriteFault => "write fault",
+            FilterFault::OutOfMemory => "out of memory",
+        })
+    }
 }
 
 impl From<AllocError> for FilterFault {

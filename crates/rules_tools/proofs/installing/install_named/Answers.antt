@@ -31,35 +31,35 @@ returns-in_err-install-clause-of_text g c =
     let fails = c.in_err-install.ensures.refused in
     rw (p.1, p.2) (fails_passes fails.text c.in_err-install.field-0.0 fails.fails)
 
-pub install_begun-requires-clause-is_open : goal.install_begun-requires-clause-is_open
-install_begun-requires-clause-is_open g c = ap (λ (s : Installing). s.over) c.in_ok-install.ensures.compiled.begun
+pub install_begun-outcome-requires-clause-is_open : goal.install_begun-outcome-requires-clause-is_open
+install_begun-outcome-requires-clause-is_open g c = ap (λ (s : Installing). s.over) c.in_ok-install.ensures.compiled.begun
 
-pub install_begun-requires-clause-unbegun : goal.install_begun-requires-clause-unbegun
-install_begun-requires-clause-unbegun g c = ap (λ (s : Installing). s.reached) c.in_ok-install.ensures.compiled.begun
+pub install_begun-outcome-requires-clause-unbegun : goal.install_begun-outcome-requires-clause-unbegun
+install_begun-outcome-requires-clause-unbegun g c = ap (λ (s : Installing). s.reached) c.in_ok-install.ensures.compiled.begun
 
-pub install_begun-requires-clause-scratch : goal.install_begun-requires-clause-scratch
-install_begun-requires-clause-scratch g c = c.in_ok-scratch.ensures ∙ c.tmp.ensures.name ∙ sym (ap (λ (s : Installing). s.names.tmp) c.in_ok-install.ensures.compiled.begun)
+pub install_begun-outcome-requires-clause-scratch : goal.install_begun-outcome-requires-clause-scratch
+install_begun-outcome-requires-clause-scratch g c = c.in_ok-scratch.ensures ∙ c.tmp.ensures.name ∙ sym (ap (λ (s : Installing). s.names.tmp) c.in_ok-install.ensures.compiled.begun)
 
-pub returns-in_err-install_begun-clause-installs : goal.returns-in_err-install_begun-clause-installs
-returns-in_err-install_begun-clause-installs g c =
-    let p = err_from_is_err_and c.from_residual-in_err-install_begun.result c.from_residual-in_err-install_begun.ensures.1 in
-    let e = c.in_err-install_begun.ensures in
+pub returns-in_err-outcome-clause-installs : goal.returns-in_err-outcome-clause-installs
+returns-in_err-outcome-clause-installs g c =
+    let p = err_from_is_err_and c.from_residual-in_err-outcome.result c.from_residual-in_err-outcome.ensures.1 in
+    let e = c.in_err-outcome.ensures in
     rw (p.1, p.2)
-    (installs _ c.args.names c.decides.ensures (installing c.in_ok-install.install) (Err c.in_err-install_begun.field-0.0) c.in_ok-install.ensures.compiled
+    (installs _ c.args.names c.decides.ensures (installing c.in_ok-install.install) (Err c.in_err-outcome.field-0.0) c.in_ok-install.ensures.compiled
     (record { ends = e.ends; series = e.series; any_moment = e.any_moment; lasts = e.lasts; done = e.done; written = e.written; device = e.device; blames = e.blames; removed = e.removed }))
 
-pub returns-in_err-install_begun-clause-untouched : goal.returns-in_err-install_begun-clause-untouched
-returns-in_err-install_begun-clause-untouched g c = λ refusal.
-    let p = err_from_is_err_and c.from_residual-in_err-install_begun.result c.from_residual-in_err-install_begun.ensures.1 in
-    absurd (disk_touches c.in_err-install_begun.field-0.0 c.in_err-install_begun.ensures.ends (rw (p.1, p.2) at refusal))
+pub returns-in_err-outcome-clause-untouched : goal.returns-in_err-outcome-clause-untouched
+returns-in_err-outcome-clause-untouched g c = λ refusal.
+    let p = err_from_is_err_and c.from_residual-in_err-outcome.result c.from_residual-in_err-outcome.ensures.1 in
+    absurd (disk_touches c.in_err-outcome.field-0.0 c.in_err-outcome.ensures.ends (rw (p.1, p.2) at refusal))
 
-pub returns-in_err-install_begun-clause-of_text : goal.returns-in_err-install_begun-clause-of_text
-returns-in_err-install_begun-clause-of_text g c =
-    let p = err_from_is_err_and c.from_residual-in_err-install_begun.result c.from_residual-in_err-install_begun.ensures.1 in
-    rw (p.1, p.2) (disk_passes c.in_err-install_begun.field-0.0 c.in_err-install_begun.ensures.ends)
+pub returns-in_err-outcome-clause-of_text : goal.returns-in_err-outcome-clause-of_text
+returns-in_err-outcome-clause-of_text g c =
+    let p = err_from_is_err_and c.from_residual-in_err-outcome.result c.from_residual-in_err-outcome.ensures.1 in
+    rw (p.1, p.2) (disk_passes c.in_err-outcome.field-0.0 c.in_err-outcome.ensures.ends)
 
 pub returns-clause-installs : goal.returns-clause-installs
 returns-clause-installs g c =
-    let e = c.in_ok-install_begun.ensures in
-    installs _ c.args.names c.decides.ensures (installing c.in_ok-install.install) (Ok c.in_ok-install_begun.field-0) c.in_ok-install.ensures.compiled
+    let e = c.in_ok-outcome.ensures in
+    installs _ c.args.names c.decides.ensures (installing c.in_ok-install.install) (Ok c.in_ok-outcome.field-0) c.in_ok-install.ensures.compiled
     (record { ends = e.ends; series = e.series; any_moment = e.any_moment; lasts = e.lasts; done = e.done; written = e.written; device = e.device; blames = e.blames; removed = e.removed })
