@@ -23,19 +23,15 @@ use shared_site::turn::made;
 use shared_site::{Ground, Made, Turn, YardOf};
 use std::alloc::Global;
 use std::snapshot::Snapshot;
-use thiserror::Error;
 
 /// Why the rules aren't opened. Nothing changed but the speaker.
-#[derive(Clone, Copy, PartialEq, Eq, Debug, Error)]
+#[derive(Clone, Copy)]
 pub enum OpenFault {
     /// The connection isn't alive, or has opened them before.
-    #[error("out of turn")]
     OutOfTurn,
     /// The directory's device failed.
-    #[error("device fault")]
     Device,
     /// There was no memory.
-    #[error("out of memory")]
     OutOfMemory,
 }
 
