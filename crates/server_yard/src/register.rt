@@ -137,15 +137,6 @@ impl<L: Ledger> Register<L> {
         self.seats.get(&index).copied().unwrap_or(0)
     }
 
-    /// The serial of the connection that has the place of an index, if it is alive.
-    pub(crate) fn serial(&self, index: usize) -> Option<u64>
-        ensures { result ≡ serial_at (seat_of self.now index) (roll_of self.now).server }
-    {
-        let serial = *self.seats.get(&index)?;
-        self.state.stage(serial)?;
-        Some(serial)
-    }
-
     /// The serial and the stage of the connection that has the place of an index, if it is alive.
     pub(crate) fn stage(&self, index: usize) -> Option<(u64, Stage)>
         ensures serial { option_map (λ r. r.0) result ≡ serial_at (seat_of self.now index) (roll_of self.now).server }

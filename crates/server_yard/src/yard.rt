@@ -39,7 +39,7 @@ use child_jobs::{Job, Place, Running, TableFault};
 use dir_calls::{Dir, DirFault, Name, Phase};
 use rule_lookup::{Decision, Peer, WhenMissing};
 use rules_install::{Install, InstallFault};
-use server_events::{Event, Journal, Stage};
+use server_events::{Event, Journal, Stage, is_same_peer};
 use std::alloc::Global;
 use std::marker::PhantomData;
 use std::mem;
@@ -214,7 +214,8 @@ impl<L: Assumptions, D: Dir + Drop> Yard<L, D> {
     pub fn serial_of(&self, place: &Place<L>) -> Option<u64>
         ensures { result ≡ serial_of self.now place.now }
     {
-        self.register.serial(place.index())
+        let (serial, _) = self.stage_of(place)?;
+        Some(serial)
     }
 
     /// The serial and the stage of the connection that has a place, if it is alive. By this a caller tests what the
@@ -239,7 +240,7 @@ impl<L: Assumptions, D: Dir + Drop> Yard<L, D> {
         ensures { IsTrue result ↔ (peer_of serial (yard_server self.now).connections ≡ Some peer.now) }
     {
         match self.register.state().peer(serial) {
-            Some(own) => is_same(own, peer),
+            Some(own) => is_same_peer(own, peer),
             None => false,
         }
     }
@@ -626,16 +627,6 @@ fn ended_by(answer: Result<Phase, InstallFault>) -> Option<Installation>
         Err(InstallFault::Disk(..)) => Some(Installation::Idle),
         _ => None,
     }
-}
-
-// Whether two peers are the same in all.
-fn is_same(one: &Peer, other: &Peer) -> bool
-    ensures { IsTrue result ↔ (one.now ≡ other.now) }
-{
-    one.ip() == other.ip()
-        && one.port() == other.port()
-        && one.host() == other.host()
-        && one.info() == other.info()
 }
 
 fn is_same_name(one: &Name, other: &Name) -> bool
