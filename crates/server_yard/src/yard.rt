@@ -537,13 +537,13 @@ impl<L: Assumptions, D: Dir + Drop> Yard<L, D> {
         let mut install = install;
         match begin_noted(alloc, &mut self.register, &mut self.dir, &mut install) {
             Ok(_) => {
-                self.installation = Installation::UnderWay(install);
+                self.installation.becomes(Installation::UnderWay(install));
                 self.begun = number;
                 Ok(number)
             }
             Err(fault) => {
                 if is_of_disk(fault) {
-                    self.installation = Installation::Idle;
+                    self.installation.becomes(Installation::Idle);
                     return Err((install, fault));
                 }
                 Err((install, fault))
@@ -585,12 +585,20 @@ impl<L: Assumptions, D: Dir + Drop> Yard<L, D> {
         match mem::replace(&mut self.installation, Installation::Idle) {
             Installation::Idle => Err(InstallFault::Over),
             Installation::AtDone => {
-                self.installation = Installation::AtDone;
+                self.installation.becomes(Installation::AtDone);
                 Ok(Phase::Done)
+    // Puts another in its place. What it was is dropped here, and not where it is put.
+    fn becomes(&mut self, next: Installation)
+        ensures { self.new ≡ next }
+    {
+        *self = next;
+    }
+
             }
             Installation::UnderWay(mut install) => {
                 let result = step_noted(alloc, &mut self.register, &mut self.dir, &mut install);
-                self.installation = Installation::after(install, result);
+                self.installation
+                    .becomes(Installation::after(install, result));
                 result
             }
         }
