@@ -257,9 +257,7 @@ impl<L: Assumptions, D: Dir + Drop> Yard<L, D> {
         ensures spent { (result ≡ Err Spent) ↔ IsSpent (yard_server self.old) }
         ensures full_for_address { (result ≡ Err FullForAddress) ↔ IsAddressFull peer.now.ip (yard_server self.old) }
         ensures noted { IfOk result (λ r. Notes (Admitted r.0 peer.now) (yard_roll self.old) (yard_roll self.new)) }
-        ensures step { IsTrue D.honest → IfOk result (λ r. LeadsOn
-            (Admitted r.0 peer.now) (yard_state self.old) (yard_state self.new)) }
-        // and so over whatever directory others left
+        // over whatever directory others left, so over the yard's own
         ensures beside { (d : Directory) → IfOk result (λ r. LeadsOn
             (Admitted r.0 peer.now) (yard_over d self.old) (yard_over d self.new)) }
         ensures seat { IfOk result (λ r. GivesSeat r.1 r.0 (yard_seat self.old) (yard_seat self.new)) }
@@ -362,9 +360,7 @@ impl<L: Assumptions, D: Dir + Drop> Yard<L, D> {
         ensures missing { pass_missing result ≡ missing_by (yard_rules self.old) }
         ensures found { pass_file result ≡ finding_file finding }
         ensures noted { Notes (Opened serial (is_some (pass_file result))) (yard_roll self.old) (yard_roll self.new) }
-        ensures step { IsTrue D.honest → pass_bytes D.File.bytes result ≡ standing_of (yard_state self.old)
-            → LeadsOpened serial (pass_bytes D.File.bytes result) (yard_state self.old) (yard_state self.new) }
-        // and so over whatever directory others left
+        // over whatever directory others left, so over the yard's own
         ensures beside { (d : Directory) → pass_bytes D.File.bytes result ≡ standing_of (yard_over d self.old)
             → LeadsOpened serial (pass_bytes D.File.bytes result) (yard_over d self.old) (yard_over d self.new) }
         ensures room { KeepsRoom (yard_roll self.old) (yard_roll self.new) }
@@ -392,9 +388,7 @@ impl<L: Assumptions, D: Dir + Drop> Yard<L, D> {
         requires peer { peer_of (pass_serial pass) (yard_server self.old).connections ≡ Some peer.now }
         requires decides { IsDecidedBy D.File.honest D.File.sound D.File.bytes pass peer.now decision }
         ensures noted { Notes (Decided (pass_serial pass) decision) (yard_roll self.old) (yard_roll self.new) }
-        ensures step { IsTrue D.honest → LeadsDecided (pass_serial pass) (pass_bytes D.File.bytes pass) decision
-            (yard_state self.old) (yard_state self.new) }
-        // and so over whatever directory others left
+        // over whatever directory others left, so over the yard's own
         ensures beside { (d : Directory) → IsTrue D.File.honest → LeadsDecided (pass_serial pass)
             (pass_bytes D.File.bytes pass) decision (yard_over d self.old) (yard_over d self.new) }
         ensures room { KeepsRoom (yard_roll self.old) (yard_roll self.new) }
@@ -412,9 +406,7 @@ impl<L: Assumptions, D: Dir + Drop> Yard<L, D> {
         requires allowed { is_allowed (stage_of_place self.old (place_of running.now)) ≡ true }
         ensures noted { Notes
             (Started (number_of self.old (place_of running.now))) (yard_roll self.old) (yard_roll self.new) }
-        ensures step { IsTrue D.honest → LeadsOn (Started (number_of self.old (place_of running.now)))
-            (yard_state self.old) (yard_state self.new) }
-        // and so over whatever directory others left
+        // over whatever directory others left, so over the yard's own
         ensures beside { (d : Directory) → LeadsOn (Started (number_of self.old (place_of running.now)))
             (yard_over d self.old) (yard_over d self.new) }
         ensures room { KeepsRoom (yard_roll self.old) (yard_roll self.new) }
@@ -429,9 +421,7 @@ impl<L: Assumptions, D: Dir + Drop> Yard<L, D> {
     pub fn left(&mut self, place: Place<L>, leaving: Leaving)
         requires may { may_leave leaving (stage_of_place self.old place) ≡ true }
         ensures noted { Notes (leaving_event leaving (number_of self.old place)) (yard_roll self.old) (yard_roll self.new) }
-        ensures step { IsTrue D.honest → LeadsOn (leaving_event leaving (number_of self.old place))
-            (yard_state self.old) (yard_state self.new) }
-        // and so over whatever directory others left
+        // over whatever directory others left, so over the yard's own
         ensures beside { (d : Directory) → LeadsOn (leaving_event leaving (number_of self.old place))
             (yard_over d self.old) (yard_over d self.new) }
         ensures room { KeepsRoom (yard_roll self.old) (yard_roll self.new) }
@@ -449,9 +439,7 @@ impl<L: Assumptions, D: Dir + Drop> Yard<L, D> {
         requires started { stage_of_place self.old (place_of running) ≡ Some stage.Started }
         ensures noted { Notes
             (Retired (number_of self.old (place_of running))) (yard_roll self.old) (yard_roll self.new) }
-        ensures step { IsTrue D.honest → LeadsOn (Retired (number_of self.old (place_of running)))
-            (yard_state self.old) (yard_state self.new) }
-        // and so over whatever directory others left
+        // over whatever directory others left, so over the yard's own
         ensures beside { (d : Directory) → LeadsOn (Retired (number_of self.old (place_of running)))
             (yard_over d self.old) (yard_over d self.new) }
         ensures room { KeepsRoom (yard_roll self.old) (yard_roll self.new) }
@@ -587,13 +575,6 @@ impl<L: Assumptions, D: Dir + Drop> Yard<L, D> {
             Installation::AtDone => {
                 self.installation.becomes(Installation::AtDone);
                 Ok(Phase::Done)
-    // Puts another in its place. What it was is dropped here, and not where it is put.
-    fn becomes(&mut self, next: Installation)
-        ensures { self.new ≡ next }
-    {
-        *self = next;
-    }
-
             }
             Installation::UnderWay(mut install) => {
                 let result = step_noted(alloc, &mut self.register, &mut self.dir, &mut install);
@@ -606,6 +587,13 @@ impl<L: Assumptions, D: Dir + Drop> Yard<L, D> {
 }
 
 impl Installation {
+    // Puts another in its place. What it was is dropped here, and not where it is put.
+    fn becomes(&mut self, next: Installation)
+        ensures { self.new ≡ next }
+    {
+        *self = next;
+    }
+
     fn is_under_way(&self) -> bool
         ensures { result ≡ is_some (installing_of self.now) }
     {

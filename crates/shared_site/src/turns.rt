@@ -17,7 +17,7 @@ ghost use Rattle.server_yard.specs.Passes.{IsDecidedBy, finding_file, pass_bytes
 ghost use Rattle.server_yard.specs.Rolls.{IsQuiet};
 ghost use Rattle.server_yard.specs.Seating.{GivesSeat, IsAddressFull, IsSpent, KeepsSerials};
 ghost use Rattle.server_yard.specs.Standing.{LeadsDecided, LeadsOn};
-ghost use Rattle.server_yard.specs.Yards.{IsSameBeside, yard_books, yard_over, yard_roll, yard_rules, yard_seat, yard_server, yard_state};
+ghost use Rattle.server_yard.specs.Yards.{IsSameBeside, yard_books, yard_over, yard_roll, yard_rules, yard_seat, yard_server};
 ghost use Rattle.server_yard.specs.declared.register.AdmitFault.TheVariants.{Full, FullForAddress, Spent};
 ghost use Rattle.shared_site.specs.Receipts.{AdmitsOrNot, CountsAtMostOne, MakesOrNot, refused_as};
 ghost use Rattle.shared_site.specs.Turns.{Answers, IsAt, IsPassedOver, LeadsFound, Makes, MakesBy, MayBeDecided, NotesAs, NotesBy, OpensBy, spoken_by, told_if_admitted, told_if_made, told_if_opened};
@@ -67,9 +67,7 @@ impl<G: Ground> Turn<G> for Admit<'_> {
             ↔ IsAddressFull self.entry.peer.now.ip (yard_server yard.old) }
         ensures noted { IfOk result (λ r. NotesBy
             caller (event.Admitted r.0 self.entry.peer.now) (yard_roll yard.old) (yard_roll yard.new)) }
-        ensures step { IsTrue G.Folder.honest → IfOk result (λ r. LeadsOn
-            (event.Admitted r.0 self.entry.peer.now) (yard_state yard.old) (yard_state yard.new)) }
-        // and so over whatever directory others left
+        // over whatever directory others left, so over the yard's own
         ensures beside { (d : Directory) → IfOk result (λ r. LeadsOn
             (event.Admitted r.0 self.entry.peer.now) (yard_over d yard.old) (yard_over d yard.new)) }
         ensures seat { IfOk result (λ r. GivesSeat r.1 r.0 (yard_seat yard.old) (yard_seat yard.new)) }
@@ -166,7 +164,7 @@ impl<G: Ground> Turn<G> for Decided<'_, G> {
             (told_if_made (event.Decided (pass_serial self.entry.pass) self.entry.decision) result)
             (yard_roll yard.old) (yard_roll yard.new) }
         ensures in_turn { IsOk result ↔ MayBeDecided yard.old self.entry.pass self.entry.peer.now }
-        // over whatever directory others left, too, if files are honest
+        // over whatever directory others left, if files are honest
         ensures makes { MakesBy caller (event.Decided (pass_serial self.entry.pass) self.entry.decision)
             (LeadsDecided (pass_serial self.entry.pass) (pass_bytes G.File.bytes self.entry.pass) self.entry.decision)
             (IsTrue G.File.honest) (is_ok result) yard.old yard.new }
