@@ -5,8 +5,7 @@ use Rattle.dir_calls.specs.Directory.{Directory}
 use Rattle.dir_calls.specs.declared.dir.Dir as dir
 use Rattle.dir_calls.specs.declared.rules_file.RulesFile as file
 use Rattle.server_events.specs.Journals.{one_more}
-use Rattle.rule_lookup.specs.declared.instr.Verdict.TheVariants as verdict
-use Rattle.server_events.specs.ServerState.{is_allowed, is_started}
+use Rattle.server_events.specs.ServerState.{is_started}
 use Rattle.server_events.specs.declared.event.Event.{Event}
 use Rattle.server_events.specs.declared.event.Stage.{Stage}
 use Rattle.server_events.specs.declared.event.Stage.TheVariants as stage
@@ -121,16 +120,7 @@ of_connections (StartFailed fault) n = refl
 of_connections (Ended status) n = refl
 of_connections (Dropped cause) n = refl
 
--- the one stage in which a child may be started, and the one in which it runs
-pub allowed_is : (s : Option Stage) → is_allowed s ≡ true → s ≡ Some (stage.Decided verdict.Allow)
-allowed_is None is = absurd (cc)
-allowed_is (Some stage.Admitted) is = absurd (cc)
-allowed_is (Some stage.Opened) is = absurd (cc)
-allowed_is (Some (stage.Decided verdict.Allow)) is = refl
-allowed_is (Some (stage.Decided verdict.Deny)) is = absurd (cc)
-allowed_is (Some stage.Started) is = absurd (cc)
-allowed_is (Some stage.Retired) is = absurd (cc)
-
+-- the one stage in which its child runs
 pub started_is : (s : Option Stage) → is_started s ≡ true → s ≡ Some stage.Started
 started_is None is = absurd (cc)
 started_is (Some stage.Admitted) is = absurd (cc)

@@ -121,12 +121,12 @@ impl<G: Ground> Turn<G> for Opened<G> {
     {
         let Opened { serial, finding } = self;
         yard.speaker(caller);
-        if yard.stage(serial) != Some(Stage::Admitted) {
+        if !is_admitted(yard.stage(serial)) {
             return None;
         }
         let pass = yard.opened(serial, finding);
         let there = pass.source().is_some();
-        let event = EventSnapshot::Other(Snapshot::of(&Event::Opened { serial, there }));
+        let event = EventSnapshot::of(Event::Opened { serial, there });
         Some((pass, made::<G>(yard, caller, event)))
     }
 }
@@ -213,10 +213,8 @@ impl<G: Ground, C: Job> Turn<G> for Started<'_, G, C> {
         ensures makes { Makes caller (event.Started self.entry.serial) (is_ok result) yard.old yard.new }
     {
         let Started { serial, running } = self;
-        let event = EventSnapshot::Other(Snapshot::of(&Event::Started { serial }));
-        if speak_at::<G>(yard, caller, running.place(), serial)
-            != Some(Stage::Decided(Verdict::Allow))
-        {
+        let event = EventSnapshot::of(Event::Started { serial });
+        if !is_allowed(speak_at::<G>(yard, caller, running.place(), serial)) {
             return Err(OutOfTurn { asked: event });
         }
         yard.started(running);
@@ -263,7 +261,7 @@ impl<G: Ground> Turn<G> for Left<G> {
             place,
             leaving,
         } = self;
-        let event = EventSnapshot::Other(Snapshot::of(&leaving.event(serial)));
+        let event = EventSnapshot::of(leaving.event(serial));
         if !leaving.may_be(speak_at::<G>(yard, caller, &place, serial)) {
             place.strand();
             return Err(OutOfTurn { asked: event });
@@ -305,14 +303,33 @@ impl<G: Ground, C: Job> Turn<G> for Retired<G, C> {
         ensures makes { Makes caller (event.Retired self.serial) (is_ok result) yard.old yard.new }
     {
         let Retired { serial, running } = self;
-        let event = EventSnapshot::Other(Snapshot::of(&Event::Retired { serial }));
-        if speak_at::<G>(yard, caller, running.place(), serial) != Some(Stage::Started) {
+        let event = EventSnapshot::of(Event::Retired { serial });
+        if !is_started(speak_at::<G>(yard, caller, running.place(), serial)) {
             running.strand();
             return Err(OutOfTurn { asked: event });
         }
         yard.retired(running);
         Ok(made::<G>(yard, caller, event))
     }
+}
+
+// The stages in which a connection may open the rules, in which its child may be started, and in which that runs.
+fn is_admitted(stage: Option<Stage>) -> bool
+    ensures { result ≡ is_admitted stage }
+{
+    matches!(stage, Some(Stage::Admitted))
+}
+
+fn is_allowed(stage: Option<Stage>) -> bool
+    ensures { result ≡ is_allowed stage }
+{
+    matches!(stage, Some(Stage::Decided(Verdict::Allow)))
+}
+
+fn is_started(stage: Option<Stage>) -> bool
+    ensures { result ≡ is_started stage }
+{
+    matches!(stage, Some(Stage::Started))
 }
 
 // Whether the connection of a pass may be decided now.

@@ -37,5 +37,5 @@ returns-clause-counts g c =
 pub returns-clause-notes : goal.returns-clause-notes
 returns-clause-notes g c = λ _. (refl, (returns-clause-makes g c).noted)
 
-pub returns-then-ne-clause-notes : goal.returns-then-ne-clause-notes
-returns-then-ne-clause-notes g c = λ _. stays c.args.caller (yard_roll c.args.yard.now) (yard_roll c.speaker.new.self) c.speaker.ensures.speaks
+pub returns-then-not-is_admitted-clause-notes : goal.returns-then-not-is_admitted-clause-notes
+returns-then-not-is_admitted-clause-notes g c = λ _. stays c.args.caller (yard_roll c.args.yard.now) (yard_roll c.speaker.new.self) c.speaker.ensures.speaks
