@@ -34,14 +34,12 @@ use crate::leaving::Leaving;
 use crate::pass::Pass;
 use crate::register::{AdmitFault, Register};
 use crate::stepping::{begin_noted, step_noted};
-use cdb_files::CdbFile;
 use child_jobs::{Job, Place, Running, TableFault};
 use dir_calls::{Dir, DirFault, Name, Phase};
 use rule_lookup::{Decision, Peer, WhenMissing};
 use rules_install::{Install, InstallFault};
 use server_events::{Event, Journal, Stage, is_same_peer};
 use std::alloc::Global;
-use std::marker::PhantomData;
 use std::mem;
 use std::sync::ledger::Blank;
 
@@ -281,12 +279,11 @@ impl<L: Assumptions, D: Dir + Drop> Yard<L, D> {
         self.register.advance(event);
     }
 
-    // What stands under the rules name, and what is decided if nothing does.
-    fn find(&mut self, alloc: Global) -> Result<(Option<CdbFile<D::File>>, WhenMissing), DirFault>
-        ensures missing { IfOk result (λ r. r.1 ≡ missing_by (yard_rules self.old)) }
-        ensures found { IsTrue D.honest → IfOk result (λ r.
-            option_map D.File.bytes r.0 ≡ standing_of (yard_state self.old)) }
-        ensures whole { IsTrue L.met → IfOk result (λ r. ∥ IsWholeFile (option_map D.File.bytes r.0) ∥₁) }
+    // What stands under the rules name.
+    fn find(&mut self, alloc: Global) -> Result<Option<D::File>, DirFault>
+        ensures found { IsTrue D.honest → IfOk result (λ file.
+            option_map D.File.bytes file ≡ standing_of (yard_state self.old)) }
+        ensures whole { IsTrue L.met → IfOk result (λ file. ∥ IsWholeFile (option_map D.File.bytes file) ∥₁) }
         ensures roll { yard_roll self.new ≡ yard_roll self.old }
         ensures state { IsTrue D.honest → yard_state self.new ≡ yard_state self.old }
         ensures stops { IsTrue D.honest → LeavesNothingElse self.old self.new }
@@ -296,12 +293,9 @@ impl<L: Assumptions, D: Dir + Drop> Yard<L, D> {
         ensures same { IsSameButDirectory self.old self.new }
         ensures seats { KeepsSeats (yard_seat self.old) (yard_seat self.new) }
     {
-        let Some((name, missing)) = &self.rules else {
-            return Ok((None, WhenMissing::Allow));
-        };
-        match self.dir.open(alloc, name)? {
-            Some(file) => Ok((Some(CdbFile::new(file)), *missing)),
-            None => Ok((None, *missing)),
+        match &self.rules {
+            Some((name, _)) => self.dir.open(alloc, name),
+            None => Ok(None),
         }
     }
 
@@ -337,17 +331,8 @@ impl<L: Assumptions, D: Dir + Drop> Yard<L, D> {
         ensures same { IsSameButDirectory self.old self.new }
         ensures seats { KeepsSeats (yard_seat self.old) (yard_seat self.new) }
     {
-        let (file, missing) = self.find(alloc)?;
-        self.advance(Event::Opened {
-            serial,
-            there: file.is_some(),
-        });
-        Ok(Pass {
-            serial,
-            file,
-            missing,
-            yard: PhantomData,
-        })
+        let file = self.find(alloc)?;
+        Ok(self.opened(serial, Finding::new(file)))
     }
 
     /// Notes that a connection which was let in has opened the rules by a handle of its own, and has found this.
