@@ -9,6 +9,7 @@ pub mod Everybody
 pub mod History
 pub mod Illegal
 pub mod InstalledRuns
+pub mod JournalRoom
 pub mod KeptLemmas
 pub mod LeftNames
 pub mod Limits

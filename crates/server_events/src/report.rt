@@ -7,10 +7,9 @@ ghost use Rattle.server_events.specs.declared.report.ReplayFault.TheVariants.{Ou
 use crate::event::Event;
 use crate::state::State;
 use std::alloc::{AllocError, Global};
-use thiserror::Error;
 
 /// The report of a list of events: how many connections were let in, are alive, and ever were.
-#[derive(Clone, Copy, PartialEq, Eq, Debug)]
+#[derive(Clone, Copy, PartialEq, Eq)]
 pub struct Report {
     /// How many connections were let in.
     pub admitted: u64,
@@ -23,13 +22,11 @@ pub struct Report {
 }
 
 /// Why a list of events has no report.
-#[derive(Clone, Copy, PartialEq, Eq, Debug, Error)]
+#[derive(Clone, Copy, PartialEq, Eq)]
 pub enum ReplayFault {
     /// The event at this position, counted from 1, is the first that may not happen there.
-    #[error("illegal event {0}")]
     IllegalEvent(u64),
     /// There was no memory to go through the list.
-    #[error("out of memory")]
     OutOfMemory,
 }
 

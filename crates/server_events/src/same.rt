@@ -137,8 +137,8 @@ fn is_stop(event: &Event) -> bool
     matches!(event, Event::Stop)
 }
 
-// Whether two peers are the same.
-fn is_same_peer(one: &Peer, other: &Peer) -> bool
+/// Whether two peers are the same.
+pub fn is_same_peer(one: &Peer, other: &Peer) -> bool
     ensures { IsTrue result ↔ (one.now ≡ other.now) }
 {
     one.ip() == other.ip()

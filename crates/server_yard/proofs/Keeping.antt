@@ -19,7 +19,7 @@ use Rattle.server_yard.specs.Passes.{trust_in}
 use Rattle.server_yard.specs.Rolls.{IsQuiet, Notes, Roll}
 use Rattle.server_yard.specs.Seating.{goes_on, goes_on_by, leaver, leaver_by}
 use Rattle.server_yard.specs.Standing.{YardState}
-use Rattle.server_yard.specs.Yards.{IsSameBeside, IsSameButDirectory, yard_over, yard_roll, yard_state}
+use Rattle.server_yard.specs.Yards.{IsSameBeside, IsSameButDirectory, yard_over, yard_roll}
 use Rattle.server_yard.specs.declared.yard.Yard.{Yard}
 use Rattle.server_yard.proofs.Histories.{OneMore, history_on, history_same}
 use Rattle.server_yard.proofs.Installs.{installed_same, installs-other, reached_by}
@@ -101,18 +101,7 @@ kept_on {b} {b'} {y} {y'} {e} {caller} own l same r i more k = record {
   installed = installed_same l same r (ap (λ (u : ServerState). u.phase) more.happens ∙ phase_stays y.server e own) i (installs-other k.history e (own_other e own)) k.installed;
 }
 
--- a yard that noted an event of a connection, and is the same beside
-pub goes_to : {L D F : Type 0} {p : _} {l : _} {d : _} (e : Event) (old new : Yard L D F p l d)
-    → Notes e (yard_roll old) (yard_roll new) → IsSameBeside old new → GoesTo (yard_state old) (yard_state new) e
-goes_to {l = l} e old new noted same = record {
-  may = noted.may;
-  happens = noted.happens;
-  directory = ap l.state same.directory;
-  rules = same.rules;
-  installing = same.installing;
-}
-
--- and so over any directory
+-- a yard that noted an event of a connection, and is the same beside, over any directory
 pub goes_over : {L D F : Type 0} {p : _} {l : _} {d : _} (directory : Directory) (e : Event) (old new : Yard L D F p l d)
     → Notes e (yard_roll old) (yard_roll new) → IsSameBeside old new → GoesTo (yard_over directory old) (yard_over directory new) e
 goes_over directory e old new noted same = record {

@@ -1,7 +1,9 @@
 //! Laws of the definitions alone.
 ghost use Rattle.std.specs.Prelude.{◌≡◌, ◌++◌, ℕ, List, [], Option, Some, length, true};
+ghost use Rattle.dir_calls.specs.Directory.{Directory};
 ghost use Rattle.server_events.specs.Journals.{Books};
 ghost use Rattle.rule_lookup.specs.Pairs.{Rule};
+ghost use Rattle.rule_lookup.specs.declared.decision.Decision.{Decision};
 ghost use Rattle.rule_lookup.specs.declared.decision.WhenMissing.{WhenMissing};
 ghost use Rattle.server_events.specs.Headline.{Reaches};
 ghost use Rattle.server_events.specs.Processes.{Woven, is_connections};
@@ -13,7 +15,7 @@ ghost use Rattle.server_events.specs.declared.event.Stage.TheVariants as Stage;
 ghost use Rattle.server_yard.specs.Readers.{IsAbsentOrCompiled, KeptYard, NamesStoredSinceDone, begun_in};
 ghost use Rattle.server_yard.specs.Runs.{AreByFound, BeginsRun, Found, InOrderOfFinding, IsPlayedOut, IsRun};
 ghost use Rattle.server_yard.specs.Serving.{IsReachedOn, IsServers, Serves, StepsByItself, over};
-ghost use Rattle.server_yard.specs.Standing.{IsNew, IsReachedBy, Leads, LeadsOpened, Series, YardState, standing_of};
+ghost use Rattle.server_yard.specs.Standing.{IsNew, IsReachedBy, Leads, LeadsDecided, LeadsOn, LeadsOpened, Series, YardState, standing_of};
 ghost use Rattle.server_yard.specs.Telling.{AreApart, ToldLater};
 
 /// From a new yard each series of calls is a history of the headline.
@@ -41,6 +43,20 @@ pub fn beside()
     ensures { (w : World) (y z : YardState) (files more : List KeptFile) (event : Event) → is_connections event ≡ true
         → IsServers y files w → Leads event (over y w.directory) files (over z w.directory) more
         → StepsByItself w event z more }
+{}
+
+/// A call that leads on over whatever directory others left leads on over the yard's own, if it leaves that as it is.
+///
+/// So each call with the clauses `beside` and `same` is a step of the headline in its yard's own world.
+pub fn own_directory()
+    ensures plain { (y z : YardState) (event : Event) → z.directory ≡ y.directory
+        → ((d : Directory) → LeadsOn event (over y d) (over z d)) → LeadsOn event y z }
+    ensures opened { (y z : YardState) (n : ℕ) (bytes : Option (List ℕ)) → z.directory ≡ y.directory
+        → ((d : Directory) → bytes ≡ standing_of (over y d) → LeadsOpened n bytes (over y d) (over z d))
+        → bytes ≡ standing_of y → LeadsOpened n bytes y z }
+    ensures decided { (y z : YardState) (n : ℕ) (bytes : Option (List ℕ)) (decision : Decision)
+        → z.directory ≡ y.directory
+        → ((d : Directory) → LeadsDecided n bytes decision (over y d) (over z d)) → LeadsDecided n bytes decision y z }
 {}
 
 /// An opening that takes some time is as good as one at a moment of its call.

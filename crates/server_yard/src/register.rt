@@ -24,22 +24,17 @@ use server_events::{Event, Journal, Stage, State};
 use std::alloc::{AllocError, Global};
 use std::collections::BTreeMap;
 use std::sync::ledger::{Blank, Ledger};
-use thiserror::Error;
 
 /// Why a connection isn't let in. Nothing changed.
-#[derive(Clone, Copy, Debug, Error)]
+#[derive(Clone, Copy)]
 pub enum AdmitFault {
     /// As many connections are alive as may be, retired ones counted.
-    #[error("all places are taken")]
     Full,
     /// The last serial, 2^64 - 1, was given.
-    #[error("no serial is left")]
     Spent,
     /// As many connections of its address are alive as may be, retired ones counted.
-    #[error("all places of the address are taken")]
     FullForAddress,
     /// There was no memory.
-    #[error("out of memory")]
     OutOfMemory,
 }
 
@@ -140,15 +135,6 @@ impl<L: Ledger> Register<L> {
         ensures { result ≡ number_at (seat_of self.now index) }
     {
         self.seats.get(&index).copied().unwrap_or(0)
-    }
-
-    /// The serial of the connection that has the place of an index, if it is alive.
-    pub(crate) fn serial(&self, index: usize) -> Option<u64>
-        ensures { result ≡ serial_at (seat_of self.now index) (roll_of self.now).server }
-    {
-        let serial = *self.seats.get(&index)?;
-        self.state.stage(serial)?;
-        Some(serial)
     }
 
     /// The serial and the stage of the connection that has the place of an index, if it is alive.

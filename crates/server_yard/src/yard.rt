@@ -34,14 +34,12 @@ use crate::leaving::Leaving;
 use crate::pass::Pass;
 use crate::register::{AdmitFault, Register};
 use crate::stepping::{begin_noted, step_noted};
-use cdb_files::CdbFile;
 use child_jobs::{Job, Place, Running, TableFault};
 use dir_calls::{Dir, DirFault, Name, Phase};
 use rule_lookup::{Decision, Peer, WhenMissing};
 use rules_install::{Install, InstallFault};
-use server_events::{Event, Journal, Stage};
+use server_events::{Event, Journal, Stage, is_same_peer};
 use std::alloc::Global;
-use std::marker::PhantomData;
 use std::mem;
 use std::sync::ledger::Blank;
 
@@ -214,7 +212,8 @@ impl<L: Assumptions, D: Dir + Drop> Yard<L, D> {
     pub fn serial_of(&self, place: &Place<L>) -> Option<u64>
         ensures { result ≡ serial_of self.now place.now }
     {
-        self.register.serial(place.index())
+        let (serial, _) = self.stage_of(place)?;
+        Some(serial)
     }
 
     /// The serial and the stage of the connection that has a place, if it is alive. By this a caller tests what the
@@ -239,7 +238,7 @@ impl<L: Assumptions, D: Dir + Drop> Yard<L, D> {
         ensures { IsTrue result ↔ (peer_of serial (yard_server self.now).connections ≡ Some peer.now) }
     {
         match self.register.state().peer(serial) {
-            Some(own) => is_same(own, peer),
+            Some(own) => is_same_peer(own, peer),
             None => false,
         }
     }
@@ -256,9 +255,7 @@ impl<L: Assumptions, D: Dir + Drop> Yard<L, D> {
         ensures spent { (result ≡ Err Spent) ↔ IsSpent (yard_server self.old) }
         ensures full_for_address { (result ≡ Err FullForAddress) ↔ IsAddressFull peer.now.ip (yard_server self.old) }
         ensures noted { IfOk result (λ r. Notes (Admitted r.0 peer.now) (yard_roll self.old) (yard_roll self.new)) }
-        ensures step { IsTrue D.honest → IfOk result (λ r. LeadsOn
-            (Admitted r.0 peer.now) (yard_state self.old) (yard_state self.new)) }
-        // and so over whatever directory others left
+        // over whatever directory others left, so over the yard's own
         ensures beside { (d : Directory) → IfOk result (λ r. LeadsOn
             (Admitted r.0 peer.now) (yard_over d self.old) (yard_over d self.new)) }
         ensures seat { IfOk result (λ r. GivesSeat r.1 r.0 (yard_seat self.old) (yard_seat self.new)) }
@@ -282,12 +279,11 @@ impl<L: Assumptions, D: Dir + Drop> Yard<L, D> {
         self.register.advance(event);
     }
 
-    // What stands under the rules name, and what is decided if nothing does.
-    fn find(&mut self, alloc: Global) -> Result<(Option<CdbFile<D::File>>, WhenMissing), DirFault>
-        ensures missing { IfOk result (λ r. r.1 ≡ missing_by (yard_rules self.old)) }
-        ensures found { IsTrue D.honest → IfOk result (λ r.
-            option_map D.File.bytes r.0 ≡ standing_of (yard_state self.old)) }
-        ensures whole { IsTrue L.met → IfOk result (λ r. ∥ IsWholeFile (option_map D.File.bytes r.0) ∥₁) }
+    // What stands under the rules name.
+    fn find(&mut self, alloc: Global) -> Result<Option<D::File>, DirFault>
+        ensures found { IsTrue D.honest → IfOk result (λ file.
+            option_map D.File.bytes file ≡ standing_of (yard_state self.old)) }
+        ensures whole { IsTrue L.met → IfOk result (λ file. ∥ IsWholeFile (option_map D.File.bytes file) ∥₁) }
         ensures roll { yard_roll self.new ≡ yard_roll self.old }
         ensures state { IsTrue D.honest → yard_state self.new ≡ yard_state self.old }
         ensures stops { IsTrue D.honest → LeavesNothingElse self.old self.new }
@@ -297,12 +293,9 @@ impl<L: Assumptions, D: Dir + Drop> Yard<L, D> {
         ensures same { IsSameButDirectory self.old self.new }
         ensures seats { KeepsSeats (yard_seat self.old) (yard_seat self.new) }
     {
-        let Some((name, missing)) = &self.rules else {
-            return Ok((None, WhenMissing::Allow));
-        };
-        match self.dir.open(alloc, name)? {
-            Some(file) => Ok((Some(CdbFile::new(file)), *missing)),
-            None => Ok((None, *missing)),
+        match &self.rules {
+            Some((name, _)) => self.dir.open(alloc, name),
+            None => Ok(None),
         }
     }
 
@@ -338,17 +331,8 @@ impl<L: Assumptions, D: Dir + Drop> Yard<L, D> {
         ensures same { IsSameButDirectory self.old self.new }
         ensures seats { KeepsSeats (yard_seat self.old) (yard_seat self.new) }
     {
-        let (file, missing) = self.find(alloc)?;
-        self.advance(Event::Opened {
-            serial,
-            there: file.is_some(),
-        });
-        Ok(Pass {
-            serial,
-            file,
-            missing,
-            yard: PhantomData,
-        })
+        let file = self.find(alloc)?;
+        Ok(self.opened(serial, Finding::new(file)))
     }
 
     /// Notes that a connection which was let in has opened the rules by a handle of its own, and has found this.
@@ -361,9 +345,7 @@ impl<L: Assumptions, D: Dir + Drop> Yard<L, D> {
         ensures missing { pass_missing result ≡ missing_by (yard_rules self.old) }
         ensures found { pass_file result ≡ finding_file finding }
         ensures noted { Notes (Opened serial (is_some (pass_file result))) (yard_roll self.old) (yard_roll self.new) }
-        ensures step { IsTrue D.honest → pass_bytes D.File.bytes result ≡ standing_of (yard_state self.old)
-            → LeadsOpened serial (pass_bytes D.File.bytes result) (yard_state self.old) (yard_state self.new) }
-        // and so over whatever directory others left
+        // over whatever directory others left, so over the yard's own
         ensures beside { (d : Directory) → pass_bytes D.File.bytes result ≡ standing_of (yard_over d self.old)
             → LeadsOpened serial (pass_bytes D.File.bytes result) (yard_over d self.old) (yard_over d self.new) }
         ensures room { KeepsRoom (yard_roll self.old) (yard_roll self.new) }
@@ -391,9 +373,7 @@ impl<L: Assumptions, D: Dir + Drop> Yard<L, D> {
         requires peer { peer_of (pass_serial pass) (yard_server self.old).connections ≡ Some peer.now }
         requires decides { IsDecidedBy D.File.honest D.File.sound D.File.bytes pass peer.now decision }
         ensures noted { Notes (Decided (pass_serial pass) decision) (yard_roll self.old) (yard_roll self.new) }
-        ensures step { IsTrue D.honest → LeadsDecided (pass_serial pass) (pass_bytes D.File.bytes pass) decision
-            (yard_state self.old) (yard_state self.new) }
-        // and so over whatever directory others left
+        // over whatever directory others left, so over the yard's own
         ensures beside { (d : Directory) → IsTrue D.File.honest → LeadsDecided (pass_serial pass)
             (pass_bytes D.File.bytes pass) decision (yard_over d self.old) (yard_over d self.new) }
         ensures room { KeepsRoom (yard_roll self.old) (yard_roll self.new) }
@@ -411,9 +391,7 @@ impl<L: Assumptions, D: Dir + Drop> Yard<L, D> {
         requires allowed { is_allowed (stage_of_place self.old (place_of running.now)) ≡ true }
         ensures noted { Notes
             (Started (number_of self.old (place_of running.now))) (yard_roll self.old) (yard_roll self.new) }
-        ensures step { IsTrue D.honest → LeadsOn (Started (number_of self.old (place_of running.now)))
-            (yard_state self.old) (yard_state self.new) }
-        // and so over whatever directory others left
+        // over whatever directory others left, so over the yard's own
         ensures beside { (d : Directory) → LeadsOn (Started (number_of self.old (place_of running.now)))
             (yard_over d self.old) (yard_over d self.new) }
         ensures room { KeepsRoom (yard_roll self.old) (yard_roll self.new) }
@@ -428,9 +406,7 @@ impl<L: Assumptions, D: Dir + Drop> Yard<L, D> {
     pub fn left(&mut self, place: Place<L>, leaving: Leaving)
         requires may { may_leave leaving (stage_of_place self.old place) ≡ true }
         ensures noted { Notes (leaving_event leaving (number_of self.old place)) (yard_roll self.old) (yard_roll self.new) }
-        ensures step { IsTrue D.honest → LeadsOn (leaving_event leaving (number_of self.old place))
-            (yard_state self.old) (yard_state self.new) }
-        // and so over whatever directory others left
+        // over whatever directory others left, so over the yard's own
         ensures beside { (d : Directory) → LeadsOn (leaving_event leaving (number_of self.old place))
             (yard_over d self.old) (yard_over d self.new) }
         ensures room { KeepsRoom (yard_roll self.old) (yard_roll self.new) }
@@ -448,9 +424,7 @@ impl<L: Assumptions, D: Dir + Drop> Yard<L, D> {
         requires started { stage_of_place self.old (place_of running) ≡ Some stage.Started }
         ensures noted { Notes
             (Retired (number_of self.old (place_of running))) (yard_roll self.old) (yard_roll self.new) }
-        ensures step { IsTrue D.honest → LeadsOn (Retired (number_of self.old (place_of running)))
-            (yard_state self.old) (yard_state self.new) }
-        // and so over whatever directory others left
+        // over whatever directory others left, so over the yard's own
         ensures beside { (d : Directory) → LeadsOn (Retired (number_of self.old (place_of running)))
             (yard_over d self.old) (yard_over d self.new) }
         ensures room { KeepsRoom (yard_roll self.old) (yard_roll self.new) }
@@ -536,13 +510,13 @@ impl<L: Assumptions, D: Dir + Drop> Yard<L, D> {
         let mut install = install;
         match begin_noted(alloc, &mut self.register, &mut self.dir, &mut install) {
             Ok(_) => {
-                self.installation = Installation::UnderWay(install);
+                self.installation.becomes(Installation::UnderWay(install));
                 self.begun = number;
                 Ok(number)
             }
             Err(fault) => {
                 if is_of_disk(fault) {
-                    self.installation = Installation::Idle;
+                    self.installation.becomes(Installation::Idle);
                     return Err((install, fault));
                 }
                 Err((install, fault))
@@ -584,12 +558,13 @@ impl<L: Assumptions, D: Dir + Drop> Yard<L, D> {
         match mem::replace(&mut self.installation, Installation::Idle) {
             Installation::Idle => Err(InstallFault::Over),
             Installation::AtDone => {
-                self.installation = Installation::AtDone;
+                self.installation.becomes(Installation::AtDone);
                 Ok(Phase::Done)
             }
             Installation::UnderWay(mut install) => {
                 let result = step_noted(alloc, &mut self.register, &mut self.dir, &mut install);
-                self.installation = Installation::after(install, result);
+                self.installation
+                    .becomes(Installation::after(install, result));
                 result
             }
         }
@@ -597,6 +572,13 @@ impl<L: Assumptions, D: Dir + Drop> Yard<L, D> {
 }
 
 impl Installation {
+    // Puts another in its place. What it was is dropped here, and not where it is put.
+    fn becomes(&mut self, next: Installation)
+        ensures { self.new ≡ next }
+    {
+        *self = next;
+    }
+
     fn is_under_way(&self) -> bool
         ensures { result ≡ is_some (installing_of self.now) }
     {
@@ -626,16 +608,6 @@ fn ended_by(answer: Result<Phase, InstallFault>) -> Option<Installation>
         Err(InstallFault::Disk(..)) => Some(Installation::Idle),
         _ => None,
     }
-}
-
-// Whether two peers are the same in all.
-fn is_same(one: &Peer, other: &Peer) -> bool
-    ensures { IsTrue result ↔ (one.now ≡ other.now) }
-{
-    one.ip() == other.ip()
-        && one.port() == other.port()
-        && one.host() == other.host()
-        && one.info() == other.info()
 }
 
 fn is_same_name(one: &Name, other: &Name) -> bool

@@ -1,12 +1,11 @@
 -- What a turn makes of a yard, and what it leaves as it was.
 use Rattle.std.proofs.Common.{◌≡◌, ℕ, Bool, true, false, ap, inr, refl, subst, ◌∙◌}
-use Rattle.std.specs.Prelude.{⊤, IsTrue, None, Option, Some}
+use Rattle.std.specs.Prelude.{⊤, None, Option, Some}
 use Rattle.dir_calls.specs.Directory.{Directory}
 use Rattle.dir_calls.specs.declared.dir.Dir as dir
 use Rattle.dir_calls.specs.declared.rules_file.RulesFile as file
 use Rattle.server_events.specs.Journals.{one_more}
-use Rattle.rule_lookup.specs.declared.instr.Verdict.TheVariants as verdict
-use Rattle.server_events.specs.ServerState.{is_allowed, is_started}
+use Rattle.server_events.specs.ServerState.{is_started}
 use Rattle.server_events.specs.declared.event.Event.{Event}
 use Rattle.server_events.specs.declared.event.Stage.{Stage}
 use Rattle.server_events.specs.declared.event.Stage.TheVariants as stage
@@ -15,7 +14,7 @@ use Rattle.server_yard.specs.Leavings.{leaving_event}
 use Rattle.server_yard.specs.Rolls.{Notes, Roll, number_at, stage_at}
 use Rattle.server_yard.specs.Seating.{KeepsSeats}
 use Rattle.server_yard.specs.Standing.{LeadsOn, YardState}
-use Rattle.server_yard.specs.Yards.{IsSameBeside, stage_of_place, yard_over, yard_roll, yard_seat, yard_state}
+use Rattle.server_yard.specs.Yards.{IsSameBeside, stage_of_place, yard_over, yard_roll, yard_seat}
 use Rattle.server_yard.specs.declared.assumptions.Assumptions as assumptions
 use Rattle.server_yard.specs.declared.leaving.Leaving.{Leaving}
 use Rattle.server_yard.specs.declared.leaving.Leaving.TheVariants.{StartFailed, Ended, Dropped}
@@ -23,7 +22,7 @@ use Rattle.server_yard.specs.declared.yard.Yard.{Yard}
 use Rattle.shared_site.specs.Receipts.{CountsAtMostOne, receipt_after, receipt_at, receipt_of}
 use Rattle.shared_site.specs.Turns.{IsAt, IsLastOf, IsPassedOver, Makes, MakesBy, NotesAs, NotesBy, spoken_by}
 use Rattle.shared_site.specs.declared.receipt.Made.{Made}
-use Rattle.shared_site.proofs.Spoken.{notes_from, spoken_over, spoken_state}
+use Rattle.shared_site.proofs.Spoken.{notes_from, spoken_over}
 
 -- what its event changes of the number of events, and what its evidence says
 pub counted : (who : ℕ) (event : Event) (old new : Roll) → NotesBy who event old new → CountsAtMostOne old.books.count new.books.count
@@ -61,12 +60,10 @@ pub made_by : {L D F : Type 0} {p : assumptions.Ghosts L} {d : dir.Ghosts D F} {
     (who : ℕ) (event : Event) (leads : YardState → YardState → Type 0) (needs : Type 0)
     (old mid new : Yard L D F p d f)
     → IsPassedOver who old mid → Notes event (yard_roll mid) (yard_roll new)
-    → (IsTrue d.honest → leads (yard_state mid) (yard_state new))
     → ((left : Directory) → needs → leads (yard_over left mid) (yard_over left new))
     → IsSameBeside mid new → KeepsSeats (yard_seat mid) (yard_seat new) → MakesBy who event leads needs true old new
-made_by who event leads needs old mid new spoken noted step beside same seats = record {
+made_by who event leads needs old mid new spoken noted beside same seats = record {
   noted = notes_from event event (yard_roll mid) (spoken_by who (yard_roll old)) (yard_roll new) refl spoken.roll noted;
-  step = λ honest. subst (λ (s : YardState). leads s (yard_state new)) (spoken_state who old mid spoken.roll spoken.beside) (step honest);
   beside = λ left met. subst (λ (s : YardState). leads s (yard_over left new))
       (spoken_over who left old mid spoken.roll spoken.beside) (beside left met);
   out = tt;
@@ -78,13 +75,11 @@ made_by who event leads needs old mid new spoken noted step beside same seats = 
 pub made_own : {L D F : Type 0} {p : assumptions.Ghosts L} {d : dir.Ghosts D F} {f : file.Ghosts F}
     (who : ℕ) (event : ℕ → Event) (n serial : ℕ) (old mid new : Yard L D F p d f)
     → n ≡ serial → IsPassedOver who old mid → Notes (event n) (yard_roll mid) (yard_roll new)
-    → (IsTrue d.honest → LeadsOn (event n) (yard_state mid) (yard_state new))
     → ((left : Directory) → LeadsOn (event n) (yard_over left mid) (yard_over left new))
     → IsSameBeside mid new → KeepsSeats (yard_seat mid) (yard_seat new) → Makes who (event serial) true old new
-made_own who event n serial old mid new own spoken noted step beside same seats =
+made_own who event n serial old mid new own spoken noted beside same seats =
     made_by who (event serial) (LeadsOn (event serial)) ⊤ old mid new spoken
     (subst (λ (m : ℕ). Notes (event m) (yard_roll mid) (yard_roll new)) own noted)
-    (λ honest. subst (λ (m : ℕ). LeadsOn (event m) (yard_state mid) (yard_state new)) own (step honest))
     (λ left _. subst (λ (m : ℕ). LeadsOn (event m) (yard_over left mid) (yard_over left new)) own (beside left)) same seats
 
 -- out of turn
@@ -93,7 +88,6 @@ pub passed : {L D F : Type 0} {p : assumptions.Ghosts L} {d : dir.Ghosts D F} {f
     → IsPassedOver who old new → MakesBy who event leads needs false old new
 passed who event leads needs old new spoken = record {
   noted = tt;
-  step = λ honest. tt;
   beside = λ left met. tt;
   out = spoken;
   same = spoken.beside;
@@ -126,16 +120,7 @@ of_connections (StartFailed fault) n = refl
 of_connections (Ended status) n = refl
 of_connections (Dropped cause) n = refl
 
--- the one stage in which a child may be started, and the one in which it runs
-pub allowed_is : (s : Option Stage) → is_allowed s ≡ true → s ≡ Some (stage.Decided verdict.Allow)
-allowed_is None is = absurd (cc)
-allowed_is (Some stage.Admitted) is = absurd (cc)
-allowed_is (Some stage.Opened) is = absurd (cc)
-allowed_is (Some (stage.Decided verdict.Allow)) is = refl
-allowed_is (Some (stage.Decided verdict.Deny)) is = absurd (cc)
-allowed_is (Some stage.Started) is = absurd (cc)
-allowed_is (Some stage.Retired) is = absurd (cc)
-
+-- the one stage in which its child runs
 pub started_is : (s : Option Stage) → is_started s ≡ true → s ≡ Some stage.Started
 started_is None is = absurd (cc)
 started_is (Some stage.Admitted) is = absurd (cc)

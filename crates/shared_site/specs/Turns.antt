@@ -1,5 +1,5 @@
 -- What a turn does to a yard, and when its event is allowed.
-use Rattle.std.specs.Prelude.{⊤, ◌≡◌, ◌++◌, ◌∷◌, ℕ, Bool, true, List, [], Option, None, Some, Result, Ok, Err, IsTrue, IfNone, IfSome, is_some}
+use Rattle.std.specs.Prelude.{⊤, ◌≡◌, ◌++◌, ◌∷◌, ℕ, Bool, true, List, [], Option, None, Some, Result, Ok, Err, IfNone, IfSome, is_some}
 use Rattle.std.specs.Bool.{OnFalse, OnTrue}
 use Rattle.dir_calls.specs.Directory.{Directory}
 use Rattle.dir_calls.specs.declared.dir.Dir as dir
@@ -17,7 +17,7 @@ use Rattle.server_yard.specs.Passes.{pass_file, pass_missing, pass_serial}
 use Rattle.server_yard.specs.Rolls.{IsQuiet, Notes, Roll}
 use Rattle.server_yard.specs.Seating.{KeepsSeats}
 use Rattle.server_yard.specs.Standing.{LeadsOn, LeadsOpened, YardState, standing_of}
-use Rattle.server_yard.specs.Yards.{IsSameBeside, number_of, stage_of_place, yard_books, yard_over, yard_roll, yard_rules, yard_seat, yard_server, yard_state}
+use Rattle.server_yard.specs.Yards.{IsSameBeside, number_of, stage_of_place, yard_books, yard_over, yard_roll, yard_rules, yard_seat, yard_server}
 use Rattle.server_yard.specs.declared.assumptions.Assumptions as assumptions
 use Rattle.server_yard.specs.declared.pass.Pass.{Pass}
 use Rattle.server_yard.specs.declared.yard.Yard.{Yard}
@@ -63,13 +63,12 @@ module _ {L D F : Type 0} {p : assumptions.Ghosts L} {d : dir.Ghosts D F} {f : f
     pub seats : KeepsSeats (yard_seat old) (yard_seat new)
 
   -- A turn of a caller made this event, or it was out of turn and made none. An event that was made is noted as the
-  -- caller's, and over an honest directory it leads the yard on in this way. If what it needs holds, it does so over
-  -- whatever directory other processes left. Out of turn nothing changed but the speaker. In turn or not, the yard is
-  -- the same beside its events, and so are all seats.
+  -- caller's. If what it needs holds, it leads the yard on in this way over whatever directory other processes left, so
+  -- over the yard's own. Out of turn nothing changed but the speaker. In turn or not, the yard is the same beside its
+  -- events, and so are all seats.
   pub record MakesBy (who : ℕ) (event : Event) (leads : (old new : YardState) → Type 0) (needs : Type 0)
       (was_made : Bool) (old new : Yard L D F p d f) : Type 0 where
     pub noted : OnTrue was_made (NotesBy who event (yard_roll old) (yard_roll new))
-    pub step : IsTrue d.honest → OnTrue was_made (leads (yard_state old) (yard_state new))
     pub beside : (left : Directory) → needs → OnTrue was_made (leads (yard_over left old) (yard_over left new))
     pub out : OnFalse was_made (IsPassedOver who old new)
     pub same : IsSameBeside old new

@@ -18,6 +18,17 @@ pub enum EventSnapshot {
     Other(Snapshot<Event>),
 }
 
+impl EventSnapshot {
+    ghost use Rattle.shared_site.specs.Receipts.{shown_event};
+
+    /// A snapshot of an event that owns nothing.
+    pub fn of(event: Event) -> EventSnapshot
+        ensures { shown_event result ≡ event }
+    {
+        EventSnapshot::Other(Snapshot::of(&event))
+    }
+}
+
 /// Evidence that a caller made an event, at a position of the history. Only `turn::made` makes one, and only of an
 /// event that this caller has just made. Whoever audits makes a receipt of it.
 #[derive(Drop)]

@@ -153,7 +153,6 @@ impl<G: Ground> Site<G> {
 }
 
 // This many callers, each with one part and a share of 0.
-#[tactic(auto, using(crate::proofs::Counting::new_more))]
 fn make_callers<N: Callers>(
     alloc: Global,
     rest: &mut Share<N>,

@@ -17,7 +17,7 @@ ghost use Rattle.server_yard.specs.Passes.{IsDecidedBy, finding_file, pass_bytes
 ghost use Rattle.server_yard.specs.Rolls.{IsQuiet};
 ghost use Rattle.server_yard.specs.Seating.{GivesSeat, IsAddressFull, IsSpent, KeepsSerials};
 ghost use Rattle.server_yard.specs.Standing.{LeadsDecided, LeadsOn};
-ghost use Rattle.server_yard.specs.Yards.{IsSameBeside, yard_books, yard_over, yard_roll, yard_rules, yard_seat, yard_server, yard_state};
+ghost use Rattle.server_yard.specs.Yards.{IsSameBeside, yard_books, yard_over, yard_roll, yard_rules, yard_seat, yard_server};
 ghost use Rattle.server_yard.specs.declared.register.AdmitFault.TheVariants.{Full, FullForAddress, Spent};
 ghost use Rattle.shared_site.specs.Receipts.{AdmitsOrNot, CountsAtMostOne, MakesOrNot, refused_as};
 ghost use Rattle.shared_site.specs.Turns.{Answers, IsAt, IsPassedOver, LeadsFound, Makes, MakesBy, MayBeDecided, NotesAs, NotesBy, OpensBy, spoken_by, told_if_admitted, told_if_made, told_if_opened};
@@ -67,9 +67,7 @@ impl<G: Ground> Turn<G> for Admit<'_> {
             ↔ IsAddressFull self.entry.peer.now.ip (yard_server yard.old) }
         ensures noted { IfOk result (λ r. NotesBy
             caller (event.Admitted r.0 self.entry.peer.now) (yard_roll yard.old) (yard_roll yard.new)) }
-        ensures step { IsTrue G.Folder.honest → IfOk result (λ r. LeadsOn
-            (event.Admitted r.0 self.entry.peer.now) (yard_state yard.old) (yard_state yard.new)) }
-        // and so over whatever directory others left
+        // over whatever directory others left, so over the yard's own
         ensures beside { (d : Directory) → IfOk result (λ r. LeadsOn
             (event.Admitted r.0 self.entry.peer.now) (yard_over d yard.old) (yard_over d yard.new)) }
         ensures seat { IfOk result (λ r. GivesSeat r.1 r.0 (yard_seat yard.old) (yard_seat yard.new)) }
@@ -123,12 +121,12 @@ impl<G: Ground> Turn<G> for Opened<G> {
     {
         let Opened { serial, finding } = self;
         yard.speaker(caller);
-        if yard.stage(serial) != Some(Stage::Admitted) {
+        if !is_admitted(yard.stage(serial)) {
             return None;
         }
         let pass = yard.opened(serial, finding);
         let there = pass.source().is_some();
-        let event = EventSnapshot::Other(Snapshot::of(&Event::Opened { serial, there }));
+        let event = EventSnapshot::of(Event::Opened { serial, there });
         Some((pass, made::<G>(yard, caller, event)))
     }
 }
@@ -166,7 +164,7 @@ impl<G: Ground> Turn<G> for Decided<'_, G> {
             (told_if_made (event.Decided (pass_serial self.entry.pass) self.entry.decision) result)
             (yard_roll yard.old) (yard_roll yard.new) }
         ensures in_turn { IsOk result ↔ MayBeDecided yard.old self.entry.pass self.entry.peer.now }
-        // over whatever directory others left, too, if files are honest
+        // over whatever directory others left, if files are honest
         ensures makes { MakesBy caller (event.Decided (pass_serial self.entry.pass) self.entry.decision)
             (LeadsDecided (pass_serial self.entry.pass) (pass_bytes G.File.bytes self.entry.pass) self.entry.decision)
             (IsTrue G.File.honest) (is_ok result) yard.old yard.new }
@@ -215,10 +213,8 @@ impl<G: Ground, C: Job> Turn<G> for Started<'_, G, C> {
         ensures makes { Makes caller (event.Started self.entry.serial) (is_ok result) yard.old yard.new }
     {
         let Started { serial, running } = self;
-        let event = EventSnapshot::Other(Snapshot::of(&Event::Started { serial }));
-        if speak_at::<G>(yard, caller, running.place(), serial)
-            != Some(Stage::Decided(Verdict::Allow))
-        {
+        let event = EventSnapshot::of(Event::Started { serial });
+        if !is_allowed(speak_at::<G>(yard, caller, running.place(), serial)) {
             return Err(OutOfTurn { asked: event });
         }
         yard.started(running);
@@ -265,7 +261,7 @@ impl<G: Ground> Turn<G> for Left<G> {
             place,
             leaving,
         } = self;
-        let event = EventSnapshot::Other(Snapshot::of(&leaving.event(serial)));
+        let event = EventSnapshot::of(leaving.event(serial));
         if !leaving.may_be(speak_at::<G>(yard, caller, &place, serial)) {
             place.strand();
             return Err(OutOfTurn { asked: event });
@@ -307,14 +303,33 @@ impl<G: Ground, C: Job> Turn<G> for Retired<G, C> {
         ensures makes { Makes caller (event.Retired self.serial) (is_ok result) yard.old yard.new }
     {
         let Retired { serial, running } = self;
-        let event = EventSnapshot::Other(Snapshot::of(&Event::Retired { serial }));
-        if speak_at::<G>(yard, caller, running.place(), serial) != Some(Stage::Started) {
+        let event = EventSnapshot::of(Event::Retired { serial });
+        if !is_started(speak_at::<G>(yard, caller, running.place(), serial)) {
             running.strand();
             return Err(OutOfTurn { asked: event });
         }
         yard.retired(running);
         Ok(made::<G>(yard, caller, event))
     }
+}
+
+// The stages in which a connection may open the rules, in which its child may be started, and in which that runs.
+fn is_admitted(stage: Option<Stage>) -> bool
+    ensures { result ≡ is_admitted stage }
+{
+    matches!(stage, Some(Stage::Admitted))
+}
+
+fn is_allowed(stage: Option<Stage>) -> bool
+    ensures { result ≡ is_allowed stage }
+{
+    matches!(stage, Some(Stage::Decided(Verdict::Allow)))
+}
+
+fn is_started(stage: Option<Stage>) -> bool
+    ensures { result ≡ is_started stage }
+{
+    matches!(stage, Some(Stage::Started))
 }
 
 // Whether the connection of a pass may be decided now.

@@ -4,11 +4,9 @@ ghost use Rattle.whole_yard.specs.Audits.{AreRight, AreRightBefore, IsAbove, IsF
 
 use server_events::{Noted, is_same_event};
 use shared_site::Receipt;
-use thiserror::Error;
 
 /// The position in the list of the first receipt that is wrong, counted from 0.
-#[derive(Clone, Copy, PartialEq, Eq, Debug, Error)]
-#[error("receipt {0} is wrong")]
+#[derive(Clone, Copy)]
 pub struct Mismatch(pub usize);
 
 /// Compares receipts with a history, which a journal stores. Each has to be the event and the caller at its position

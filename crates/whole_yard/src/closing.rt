@@ -10,19 +10,15 @@ use crate::laws::whole;
 use dir_calls::Dir;
 use server_yard::{Assumptions, Yard};
 use shared_site::{CallerOf, Ground, Receipt, Site, YardOf};
-use thiserror::Error;
 
 /// Why receipts are not the whole history.
-#[derive(Clone, Copy, PartialEq, Eq, Debug, Error)]
+#[derive(Clone, Copy)]
 pub enum NotWhole {
     /// A receipt is wrong: the first one that `audit` finds.
-    #[error("a receipt is wrong")]
     Wrong(Mismatch),
     /// Each receipt is right, but some event has none.
-    #[error("receipts are missing")]
     Missing,
     /// The journal stores no events.
-    #[error("events are only counted")]
     OnlyCounted,
 }
 

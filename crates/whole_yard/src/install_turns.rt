@@ -22,7 +22,6 @@ use shared_site::receipt::EventSnapshot;
 use shared_site::turn::made;
 use shared_site::{Ground, Made, Turn, YardOf};
 use std::alloc::Global;
-use std::snapshot::Snapshot;
 
 /// Begins an installation, as `Yard::install_begin` does. The answer also has the event, if it was one: a first step,
 /// or a fault of the directory.
@@ -138,9 +137,7 @@ fn evidence<G: Ground>(yard: &YardOf<G>, caller: u64, event: Option<Event>) -> O
     requires { IfSome event (λ event. IsLastOf caller event (yard_roll yard.now)) }
     ensures { option_map receipt_of result ≡ option_map (receipt_at (yard_books yard.now).count caller) event }
 {
-    let event = event?;
-    let shown = EventSnapshot::Other(Snapshot::of(&event));
-    Some(made::<G>(yard, caller, shown))
+    Some(made::<G>(yard, caller, EventSnapshot::of(event?)))
 }
 
 // Which event a first step was, if it was one.

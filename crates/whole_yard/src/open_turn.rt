@@ -22,20 +22,15 @@ use shared_site::receipt::EventSnapshot;
 use shared_site::turn::made;
 use shared_site::{Ground, Made, Turn, YardOf};
 use std::alloc::Global;
-use std::snapshot::Snapshot;
-use thiserror::Error;
 
 /// Why the rules aren't opened. Nothing changed but the speaker.
-#[derive(Clone, Copy, PartialEq, Eq, Debug, Error)]
+#[derive(Clone, Copy)]
 pub enum OpenFault {
     /// The connection isn't alive, or has opened them before.
-    #[error("out of turn")]
     OutOfTurn,
     /// The directory's device failed.
-    #[error("device fault")]
     Device,
     /// There was no memory.
-    #[error("out of memory")]
     OutOfMemory,
 }
 
@@ -101,7 +96,7 @@ impl<G: Ground> Turn<G> for Open {
         match yard.open(alloc, serial) {
             Ok(pass) => {
                 let there = pass.source().is_some();
-                let event = EventSnapshot::Other(Snapshot::of(&Event::Opened { serial, there }));
+                let event = EventSnapshot::of(Event::Opened { serial, there });
                 Ok((pass, made::<G>(yard, caller, event)))
             }
             Err(DirFault::OutOfMemory) => Err(OpenFault::OutOfMemory),

@@ -1,4 +1,5 @@
-use Rattle.server_events.specs.JournalParts.{has_room, none_needed}
+use Rattle.server_events.specs.JournalParts.{has_room}
+use Rattle.server_events.proofs.JournalRoom.{none_needed}
 use Rattle.std.proofs.Common.{◌≡◌, ◌<◌, ◌^◌, ℕ, List, [], length, true, refl, sym, ap, subst, ◌∙◌, arith}
 use Rattle.std.specs.FinMap as map
 use Rattle.std.specs.BTreeMap.{is_at}

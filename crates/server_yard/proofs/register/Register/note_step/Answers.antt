@@ -1,4 +1,5 @@
-use Rattle.server_events.specs.JournalParts.{has_room, less_room}
+use Rattle.server_events.specs.JournalParts.{has_room}
+use Rattle.server_events.proofs.JournalRoom.{less_room}
 use Rattle.std.proofs.Common.{◌≡◌, ◌<◌, ◌+◌, ◌^◌, ℕ, true, sym, ap, subst, ◌∙◌, arith}
 use Rattle.std.specs.BTreeMap.{get}
 use Rattle.std.specs.Ordering.{nat_cmp}

@@ -1,4 +1,5 @@
-use Rattle.server_events.specs.JournalParts.{has_room, less_room}
+use Rattle.server_events.specs.JournalParts.{has_room}
+use Rattle.server_events.proofs.JournalRoom.{less_room}
 use Rattle.std.proofs.Common.{refl}
 use Rattle.server_yard.specs.Rooms.{room_needed}
 use Rattle.server_yard.proofs.Histories.{has_history_kept}

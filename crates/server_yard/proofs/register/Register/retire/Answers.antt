@@ -1,4 +1,5 @@
-use Rattle.server_events.specs.JournalParts.{has_room, less_room}
+use Rattle.server_events.specs.JournalParts.{has_room}
+use Rattle.server_events.proofs.JournalRoom.{less_room}
 use Rattle.std.proofs.Common.{◌≡◌, ◌<◌, ◌+◌, ◌^◌, ℕ, true, refl, sym, ap, subst, ◌∙◌, arith}
 use Rattle.std.specs.Prelude.{is_some}
 use Rattle.std.specs.BTreeMap.{get}

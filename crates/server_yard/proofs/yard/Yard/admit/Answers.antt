@@ -22,11 +22,6 @@ invariant_of-self g c =
           (λ quiet. kept_quiet quiet.tells quiet.counts quiet.stores c.admit.ensures.lists quiet.stays refl refl refl k) way);
     }
 
-pub returns-clause-step : goal.returns-clause-step
-returns-clause-step g c = λ honest.
-    if_ok c.admit.result c.admit.ensures.noted (λ r noted. plain_leads _ _ (event.Admitted r.0 c.args.peer.now) refl refl
-    (record { may = noted.may; happens = noted.happens; directory = refl; rules = refl; installing = refl }))
-
 pub returns-clause-beside : goal.returns-clause-beside
 returns-clause-beside g c = λ d.
     if_ok c.admit.result c.admit.ensures.noted (λ r noted. plain_leads _ _ (event.Admitted r.0 c.args.peer.now) refl refl

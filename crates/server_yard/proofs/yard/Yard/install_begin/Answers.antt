@@ -1,5 +1,5 @@
 use Rattle.std.proofs.Common.{◌∷◌, ◌++◌, [], List, Option, None, Some, inr, refl, sym, ap, subst, ◌∙◌}
-use Rattle.std.specs.Prelude.{Ok, Err, option_map}
+use Rattle.std.specs.Prelude.{Ok, Err, if◌then◌else◌, option_map}
 use Rattle.dir_calls.specs.Directory.{Directory}
 use Rattle.rule_lookup.specs.Pairs.{Rule}
 use Rattle.server_events.specs.ServerState.{ServerState, phase_after}
@@ -12,7 +12,7 @@ use Rattle.rules_install.specs.declared.fault.InstallFault.{InstallFault}
 use Rattle.server_events.specs.declared.event.Event.{Event}
 use Rattle.server_events.specs.declared.event.Event.TheVariants.{Stepped}
 use Rattle.server_yard.specs.Installed.{KeepsHistory}
-use Rattle.server_yard.specs.Kept.{IsGoing, installing_of, rules_of}
+use Rattle.server_yard.specs.Kept.{IsGoing, installing_of, is_kept, phase_of, rules_of}
 use Rattle.server_yard.specs.Rolls.{Notes}
 use Rattle.server_yard.specs.Registers.{books_of, roll_of}
 use Rattle.server_yard.specs.Standing.{LeadsOn, LeadsSome, YardState}
@@ -55,14 +55,16 @@ invariant_of-self g c =
     let reached = goes.1 ∙ ap (λ (q : Phase). Some q) first in
     let r = named_rules (rules_of old.rules) s.names.cdb may.for_rules in
     let rules = rules_of old.rules in
+    let kept = ap installing_of c.becomes.ensures in
     record {
       honest = old.honest;
-      phase = reached ∙ sym (ap (λ (u : ServerState). u.phase) noted.happens ∙ ap phase_after is);
-      going = λ x same. subst (λ (u : Installing). IsGoing u rules) (same_some t x same) (going_at s t rules Fresh (λ e. absurd (cc)) c.in-Ok.ensures.same (named_by rules s.names.cdb may.for_rules) (λ none. none_not_some r.0 (sym none ∙ r.1)) goes.2 reached);
-      finds = λ honest x same. subst (λ (u : Installing). Fits u (state made.new.dir)) (same_some t x same) (c.in-Ok.ensures.fits honest);
+      phase = ap phase_of kept ∙ reached ∙ sym (ap (λ (u : ServerState). u.phase) noted.happens ∙ ap phase_after is);
+      going = λ x same. subst (λ (u : Installing). IsGoing u rules) (same_some t x (sym kept ∙ same)) (going_at s t rules Fresh (λ e. absurd (cc)) c.in-Ok.ensures.same (named_by rules s.names.cdb may.for_rules) (λ none. none_not_some r.0 (sym none ∙ r.1)) goes.2 reached);
+      finds = λ honest x same. subst (λ (u : Installing). Fits u (state made.new.dir)) (same_some t x (sym kept ∙ same)) (c.in-Ok.ensures.fits honest);
       installed = λ met. ∥∥₁_map (old.installed met) (λ k.
           let honest = old.honest met in
-          subst (λ (q : Phase). KeepsHistory (books_of made.new.register) (record (yard_state old) { directory = state made.new.dir; server = made.new.register.state; installing = kept_then t (Ok q) })) is
+          subst (λ (o : Option Installing). KeepsHistory (books_of made.new.register) (record (yard_state old) { directory = state made.new.dir; server = made.new.register.state; installing = o }))
+          (ap (λ (q : Phase). kept_then t (Ok q)) is ∙ sym kept)
           (kept_stepped (yard_state old) made.new.register.state (state made.new.dir) s t (next_phase s) k
           (has_new k.installed.world (state old.dir) rules s r.0 k.installed.has_directory k.installed.has_rules r.1 r.2 may.unbegun) (λ q h. h.1 ∙ ap (λ (x : Phase). Some x) (sym h.0)) p old.register.speaker
           (one_more_of (Stepped p) (roll_of old.register) (roll_of made.new.register) old.register.small tt noted) goes (c.in-Ok.ensures.leads honest)
@@ -81,15 +83,17 @@ invariant_of-self-then-is_of_disk g c =
     let disk = sym c.is_of_disk.ensures ∙ c.if-is_of_disk.true in
     let r = named_rules (rules_of old.rules) s.names.cdb may.for_rules in
     let rules = rules_of old.rules in
+    let none = ap installing_of c.becomes-then-is_of_disk.ensures in
     record {
       honest = old.honest;
-      phase = sym (disk_phase fault (roll_of old.register) (roll_of made.new.register) disk c.in-Err.ensures.noted);
-      going = λ x same. absurd (none_not_some x same);
-      finds = λ honest x same. absurd (none_not_some x same);
+      phase = ap phase_of none ∙ sym (disk_phase fault (roll_of old.register) (roll_of made.new.register) disk c.in-Err.ensures.noted);
+      going = λ x same. absurd (none_not_some x (sym none ∙ same));
+      finds = λ honest x same. absurd (none_not_some x (sym none ∙ same));
       installed = λ met. ∥∥₁_map (old.installed met) (λ k.
           let honest = old.honest met in
-          kept_fault (state old.dir) (state made.new.dir) rules (installing_of old.installation) s t fault (roll_of old.register) (roll_of made.new.register) k
-          (has_new k.installed.world (state old.dir) rules s r.0 k.installed.has_directory k.installed.has_rules r.1 r.2 may.unbegun) old.register.small disk c.in-Err.ensures.noted (c.in-Err.ensures.device honest) c.in-Err.ensures.err (c.in-Err.ensures.leads honest));
+          subst (λ (o : Option Installing). KeepsHistory (books_of made.new.register) (record (yard_state old) { directory = state made.new.dir; server = made.new.register.state; installing = o })) (sym none)
+          (kept_fault (state old.dir) (state made.new.dir) rules (installing_of old.installation) s t fault (roll_of old.register) (roll_of made.new.register) k
+          (has_new k.installed.world (state old.dir) rules s r.0 k.installed.has_directory k.installed.has_rules r.1 r.2 may.unbegun) old.register.small disk c.in-Err.ensures.noted (c.in-Err.ensures.device honest) c.in-Err.ensures.err (c.in-Err.ensures.leads honest)));
     }
 
 pub returns-then-is_of_disk-clause-over : goal.returns-then-is_of_disk-clause-over
@@ -103,7 +107,7 @@ returns-then-is_of_disk-clause-number g c = tt
 pub returns-then-is_of_disk-clause-kept : goal.returns-then-is_of_disk-clause-kept
 returns-then-is_of_disk-clause-kept g c =
     let disk = sym c.is_of_disk.ensures ∙ c.if-is_of_disk.true in
-    sym (disk_kept c.in-Err.fault _ disk)
+    ap (λ i. if is_kept i then Some c.args.self.now.begun else None) c.becomes-then-is_of_disk.ensures ∙ sym (disk_kept c.in-Err.fault _ disk)
 
 pub returns-then-is_of_disk-clause-step : goal.returns-then-is_of_disk-clause-step
 returns-then-is_of_disk-clause-step g c = λ honest.
@@ -117,9 +121,9 @@ returns-then-is_of_disk-clause-step g c = λ honest.
     let disk = sym c.is_of_disk.ensures ∙ c.if-is_of_disk.true in
     let r = named_rules (rules_of old.rules) s.names.cdb may.for_rules in
     let y = yard_state old in
-    let z : YardState = record { directory = state made.new.dir; rules = rules_of old.rules; server = made.new.register.state; installing = None } in
+    let z : YardState = record { directory = state made.new.dir; rules = rules_of old.rules; server = made.new.register.state; installing = installing_of c.becomes-then-is_of_disk.new.self } in
     step_leads y z s t (next_phase s) (Err fault) (it_new y s r.0 r.1 r.2 may.unbegun) c.in-Err.ensures.goes (c.in-Err.ensures.device honest) (c.in-Err.ensures.leads honest)
-    (steps_to t y z (Err fault) (roll_of old.register) (roll_of made.new.register) c.in-Err.ensures.noted refl refl refl (sym (disk_then t fault disk)))
+    (steps_to t y z (Err fault) (roll_of old.register) (roll_of made.new.register) c.in-Err.ensures.noted refl refl refl (ap installing_of c.becomes-then-is_of_disk.ensures ∙ sym (disk_then t fault disk)))
     (λ none. absurd (disk_event fault disk none))
 
 pub returns-then-is_of_disk-clause-stops : goal.returns-then-is_of_disk-clause-stops
@@ -162,10 +166,10 @@ returns-in-Ok-clause-step g c = λ honest.
     let is = c.in-Ok.ensures.goes.0 ∙ first_is s may.unbegun in
     let r = named_rules (rules_of old.rules) s.names.cdb may.for_rules in
     let y = yard_state old in
-    let z : YardState = record { directory = state made.new.dir; rules = rules_of old.rules; server = made.new.register.state; installing = Some t } in
+    let z : YardState = record { directory = state made.new.dir; rules = rules_of old.rules; server = made.new.register.state; installing = installing_of c.becomes.new.self } in
     subst (λ (q : Phase). LeadsOn (Stepped q) y z) is
     (step_leads y z s t (next_phase s) (Ok p) (it_new y s r.0 r.1 r.2 may.unbegun) c.in-Ok.ensures.goes tt (c.in-Ok.ensures.leads honest)
-    (steps_to t y z (Ok p) (roll_of old.register) (roll_of made.new.register) c.in-Ok.ensures.noted refl refl refl (sym (ap (λ (q : Phase). kept_then t (Ok q)) is)))
+    (steps_to t y z (Ok p) (roll_of old.register) (roll_of made.new.register) c.in-Ok.ensures.noted refl refl refl (ap installing_of c.becomes.ensures ∙ sym (ap (λ (q : Phase). kept_then t (Ok q)) is)))
     (λ none. absurd (none_not_some (Stepped p) (sym none))))
 
 pub returns-in-Ok-clause-stops : goal.returns-in-Ok-clause-stops
@@ -288,7 +292,7 @@ pub returns-in-Ok-clause-begun : goal.returns-in-Ok-clause-begun
 returns-in-Ok-clause-begun g c = refl
 
 pub returns-in-Ok-clause-kept : goal.returns-in-Ok-clause-kept
-returns-in-Ok-clause-kept g c = refl
+returns-in-Ok-clause-kept g c = ap (λ i. if is_kept i then Some c.in-Some.number else None) c.becomes.ensures
 
 pub returns-in-Ok-clause-rules : goal.returns-in-Ok-clause-rules
 returns-in-Ok-clause-rules g c = refl

@@ -54,13 +54,13 @@ invariant_of-self g c =
 pub invariant_of-self-in-AtDone : goal.invariant_of-self-in-AtDone
 invariant_of-self-in-AtDone g c =
     let old = c.args.self.now in
-    let none = ap installing_of (sym c.in-AtDone.ensures.value) in
+    let same = ap installing_of (c.becomes.ensures ∙ c.in-AtDone.ensures.value) in
     record {
       honest = old.honest;
-      phase = sym (ap phase_of none) ∙ old.phase;
-      going = λ x is. absurd (none_not_some x is);
-      finds = λ honest x is. absurd (none_not_some x is);
-      installed = λ met. ∥∥₁_map (old.installed met) (λ k. kept_quiet refl refl refl refl refl refl refl (sym none) k);
+      phase = ap phase_of same ∙ old.phase;
+      going = λ x is. old.going x (sym same ∙ is);
+      finds = λ honest x is. old.finds honest x (sym same ∙ is);
+      installed = λ met. ∥∥₁_map (old.installed met) (λ k. kept_quiet refl refl refl refl refl refl refl same k);
     }
 
 pub invariant_of-self-in-UnderWay : goal.invariant_of-self-in-UnderWay
@@ -73,7 +73,7 @@ invariant_of-self-in-UnderWay g c =
     let made = c.step_noted-result in
     let t = installing made.new.install in
     let result = made.result in
-    let kept = c.after.ensures.installing in
+    let kept = ap installing_of c.becomes-in-UnderWay.ensures ∙ c.after.ensures.installing in
     let r = some_rules (rules_of old.rules) going.follows in
     record {
       honest = old.honest;
@@ -129,11 +129,12 @@ returns-in-UnderWay-clause-step g c = λ honest.
     let under = ap (λ (b : Bool). if b then installing_of old.installation else None) number ∙ inst in
     let r = some_rules (rules_of old.rules) going.follows in
     let y = yard_state old in
-    let z : YardState = record { directory = state made.new.dir; rules = rules_of old.rules; server = made.new.register.state; installing = installing_of c.after.result } in
+    let kept = ap installing_of c.becomes-in-UnderWay.ensures ∙ c.after.ensures.installing in
+    let z : YardState = record { directory = state made.new.dir; rules = rules_of old.rules; server = made.new.register.state; installing = installing_of c.becomes-in-UnderWay.new.self } in
     subst (λ (o : Option Installing). LeadsSome (event_of_step o result) y z) (sym under)
     (step_leads y z s t (next_phase s) result (it_kept y s r.0 r.1 (going.for_rules r.0 r.1) inst) made.ensures.goes (made.ensures.device honest) (made.ensures.leads honest)
-    (steps_to t y z result (roll_of old.register) (roll_of made.new.register) made.ensures.noted refl refl refl c.after.ensures.installing)
-    (still_state s t (next_phase s) y z result (roll_of old.register) (roll_of made.new.register) made.ensures.noted made.ensures.goes refl refl refl inst c.after.ensures.installing (made.ensures.still honest)))
+    (steps_to t y z result (roll_of old.register) (roll_of made.new.register) made.ensures.noted refl refl refl kept)
+    (still_state s t (next_phase s) y z result (roll_of old.register) (roll_of made.new.register) made.ensures.noted made.ensures.goes refl refl refl inst kept (made.ensures.still honest)))
 
 pub returns-in-UnderWay-clause-stops : goal.returns-in-UnderWay-clause-stops
 returns-in-UnderWay-clause-stops g c = λ honest files w image at left.
@@ -152,13 +153,14 @@ returns-in-UnderWay-clause-goes g c =
     let is : old.begun ≡ c.args.number = grind (arith, here) in
     let number = eq-eqb old.begun c.args.number is in
     let under = ap (λ (b : Bool). if b then installing_of old.installation else None) number ∙ ap installing_of (sym c.in-UnderWay.ensures.value) in
-    subst (λ (o : Option Installing). IfSome o (λ s. GoesAsStep s (installing_of c.after.result) made.result)) (sym under) (record { after_it = installing made.new.install; goes = made.ensures.goes; kept = c.after.ensures.installing })
+    subst (λ (o : Option Installing). IfSome o (λ s. GoesAsStep s (installing_of c.becomes-in-UnderWay.new.self) made.result)) (sym under)
+    (record { after_it = installing made.new.install; goes = made.ensures.goes; kept = ap installing_of c.becomes-in-UnderWay.ensures ∙ c.after.ensures.installing })
 
 pub returns-in-UnderWay-clause-kept : goal.returns-in-UnderWay-clause-kept
 returns-in-UnderWay-clause-kept g c =
     let old = c.args.self.now in
     let made = c.step_noted-result in
-    ap (λ (b : Bool). if b then Some old.begun else None) c.after.ensures.kept ∙ kept_numbers made.result old.begun
+    ap (λ (b : Bool). if b then Some old.begun else None) (ap is_kept c.becomes-in-UnderWay.ensures ∙ c.after.ensures.kept) ∙ kept_numbers made.result old.begun
     ∙ ap (λ o. kept_after_step made.result o) (sym (ap (λ i. if is_kept i then Some old.begun else None) (sym c.in-UnderWay.ensures.value)))
 
 pub returns-then-number-self-clause-over : goal.returns-then-number-self-clause-over
@@ -294,20 +296,20 @@ pub returns-in-AtDone-clause-step : goal.returns-in-AtDone-clause-step
 returns-in-AtDone-clause-step g c = λ honest.
     let old = c.args.self.now in
     let y = yard_state old in
-    let z : YardState = record y { installing = None } in
+    let z : YardState = record y { installing = installing_of c.becomes.new.self } in
     let under = none_under (old.begun == c.args.number) (installing_of old.installation) (ap installing_of (sym c.in-AtDone.ensures.value)) in
-    subst (λ (o : Option Installing). LeadsSome (event_of_step o (Ok Done)) y z) (sym under) (states y z refl refl refl (ap installing_of c.in-AtDone.ensures.value))
+    subst (λ (o : Option Installing). LeadsSome (event_of_step o (Ok Done)) y z) (sym under) (states y z refl refl refl (ap installing_of (c.becomes.ensures ∙ c.in-AtDone.ensures.value)))
 
 pub returns-in-AtDone-clause-goes : goal.returns-in-AtDone-clause-goes
 returns-in-AtDone-clause-goes g c =
     let old = c.args.self.now in
     let under = none_under (old.begun == c.args.number) (installing_of old.installation) (ap installing_of (sym c.in-AtDone.ensures.value)) in
-    subst (λ (o : Option Installing). IfSome o (λ s. GoesAsStep s None (Ok Done))) (sym under) tt
+    subst (λ (o : Option Installing). IfSome o (λ s. GoesAsStep s (installing_of c.becomes.new.self) (Ok Done))) (sym under) tt
 
 pub returns-in-AtDone-clause-kept : goal.returns-in-AtDone-clause-kept
 returns-in-AtDone-clause-kept g c =
     let old = c.args.self.now in
-    ap (λ i. if is_kept i then Some old.begun else None) c.in-AtDone.ensures.value
+    ap (λ i. if is_kept i then Some old.begun else None) (c.becomes.ensures ∙ c.in-AtDone.ensures.value)
 
 pub returns-in-AtDone-clause-stops : goal.returns-in-AtDone-clause-stops
 returns-in-AtDone-clause-stops g c = λ honest files w image at left. inr (g.met.D.Dir.only_now c.args.self.now.dir image honest left)

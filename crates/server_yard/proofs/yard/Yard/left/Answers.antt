@@ -56,6 +56,3 @@ returns-clause-beside g c = λ d.
     subst (λ (f : Event). LeadsOn f (yard_over d old) (state_of c.leave.new.self d old.rules old.installation)) (c.event.ensures ∙ ap (leaving_event c.args.leaving) its)
     (plain_leads _ _ e (leaver_plain e n kind) (leaver_own e n kind)
     (record { may = noted.may; happens = noted.happens; directory = refl; rules = refl; installing = refl }))
-
-pub returns-clause-step : goal.returns-clause-step
-returns-clause-step g c = λ honest. returns-clause-beside g c (g.D.Dir.state c.args.self.now.dir)

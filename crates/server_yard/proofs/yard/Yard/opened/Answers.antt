@@ -1,19 +1,10 @@
 use Rattle.std.proofs.Common.{Bool, sym, subst, ◌∙◌}
 use Rattle.std.specs.Prelude.{option_map}
 use Rattle.server_events.specs.declared.event.Event.TheVariants as event
-use Rattle.server_yard.specs.Yards.{yard_over, yard_state}
-use Rattle.server_yard.proofs.Keeping.{goes_over, goes_to, is_some-map}
+use Rattle.server_yard.specs.Yards.{yard_over}
+use Rattle.server_yard.proofs.Keeping.{goes_over, is_some-map}
 use Rattle.server_yard.proofs.Matching.{GoesTo, opened_leads}
 use Rattle.server_yard.proofs.yard.Yard.opened.Goals as goal
-
-pub returns-clause-step : goal.returns-clause-step
-returns-clause-step g c = λ honest. λ stands.
-    let old = c.args.self.now in
-    let n = c.args.serial in
-    let f = g.D.File.RulesFile in
-    let there = c.is_some.ensures ∙ sym (is_some-map f.bytes c.args.finding.file) in
-    let goes = goes_to (event.Opened n c.is_some.result) old c.advance.new.self c.advance.ensures.noted c.advance.ensures.same in
-    opened_leads _ _ n (option_map f.bytes c.args.finding.file) (subst (λ (b : Bool). GoesTo (yard_state old) (yard_state c.advance.new.self) (event.Opened n b)) there goes) stands
 
 pub returns-clause-beside : goal.returns-clause-beside
 returns-clause-beside g c = λ d stands.

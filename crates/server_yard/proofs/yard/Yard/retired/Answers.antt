@@ -25,13 +25,6 @@ invariant_of-self g c =
       installed = λ met. ∥∥₁_map (old.installed met) (λ k. kept_on own c.retire.ensures.lists refl refl refl (one_more_of e (yard_roll old) _ old.register.small fits noted) k);
     }
 
-pub returns-clause-step : goal.returns-clause-step
-returns-clause-step g c = λ honest.
-    let old = c.args.self.now in
-    let noted = c.retire.ensures.noted in
-    plain_leads _ _ (event.Retired (number_at (yard_seat old (place_of c.args.running)))) refl refl
-    (record { may = noted.may; happens = noted.happens; directory = refl; rules = refl; installing = refl })
-
 pub returns-clause-beside : goal.returns-clause-beside
 returns-clause-beside g c = λ d.
     let noted = c.retire.ensures.noted in

@@ -15,7 +15,7 @@ returns-clause-makes g c =
     made_by c.args.caller (event.Decided (pass_serial pass) c.args.self.decision)
     (LeadsDecided (pass_serial pass) (pass_bytes g.G.File.RulesFile.bytes pass) c.args.self.decision)
     (IsTrue g.G.File.RulesFile.honest) c.args.yard.now c.speaker.new.self call.new.self
-    (record { roll = spoke.speaks; beside = spoke.same; seats = spoke.seats }) call.ensures.noted call.ensures.step call.ensures.beside
+    (record { roll = spoke.speaks; beside = spoke.same; seats = spoke.seats }) call.ensures.noted call.ensures.beside
     call.ensures.same call.ensures.seats
 
 pub made-requires : goal.made-requires

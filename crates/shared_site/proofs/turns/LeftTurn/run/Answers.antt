@@ -18,7 +18,7 @@ made-requires g c =
     record {
       last = last_own c.args.caller (leaving_event c.args.self.leaving) _ c.args.self.serial _
           (yard_roll c.args.yard.now) (yard_roll c.speak_at.new.yard) (yard_roll c.left.new.self)
-          at.has_serial c.speak_at.ensures.spoken.roll c.left.ensures.noted (c.of.ensures ∙ c.event.ensures);
+          at.has_serial c.speak_at.ensures.spoken.roll c.left.ensures.noted (c.of-event.ensures ∙ c.event.ensures);
     }
 
 pub returns-clause-makes : goal.returns-clause-makes
@@ -26,7 +26,7 @@ returns-clause-makes g c =
     let at = c.speak_at.ensures.stays (may_leave c.args.self.leaving) (leaves_from_none c.args.self.leaving) (sym c.may_be.ensures ∙ (search rules)) in
     let call = c.left in
     made_own c.args.caller (leaving_event c.args.self.leaving) _ c.args.self.serial c.args.yard.now c.speak_at.new.yard call.new.self
-    at.has_serial c.speak_at.ensures.spoken call.ensures.noted call.ensures.step call.ensures.beside call.ensures.same call.ensures.seats
+    at.has_serial c.speak_at.ensures.spoken call.ensures.noted call.ensures.beside call.ensures.same call.ensures.seats
 
 pub returns-clause-counts : goal.returns-clause-counts
 returns-clause-counts g c =
@@ -35,7 +35,7 @@ returns-clause-counts g c =
 pub returns-clause-answers : goal.returns-clause-answers
 returns-clause-answers g c =
     answered c.args.caller (leaving_event c.args.self.leaving c.args.self.serial) _ c.made.result
-    (yard_roll c.args.yard.now) (yard_roll c.left.new.self) (returns-clause-makes g c).noted (c.of.ensures ∙ c.event.ensures) c.made.ensures.its
+    (yard_roll c.args.yard.now) (yard_roll c.left.new.self) (returns-clause-makes g c).noted (c.of-event.ensures ∙ c.event.ensures) c.made.ensures.its
 
 pub returns-clause-in_turn : goal.returns-clause-in_turn
 returns-clause-in_turn g c = (λ ok. (c.speak_at.ensures.passes (may_leave c.args.self.leaving) (leaves_from_none c.args.self.leaving)).0 (sym c.may_be.ensures ∙ (search rules)), λ at. refl)

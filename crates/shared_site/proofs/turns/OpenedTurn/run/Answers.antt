@@ -4,7 +4,7 @@ use Rattle.server_events.specs.declared.event.Event.TheVariants as event
 use Rattle.server_yard.specs.Passes.{finding_file}
 use Rattle.server_yard.specs.Rolls.{Notes}
 use Rattle.server_yard.specs.Standing.{LeadsOpened, standing_of}
-use Rattle.server_yard.specs.Yards.{yard_over, yard_roll, yard_state}
+use Rattle.server_yard.specs.Yards.{yard_over, yard_roll}
 use Rattle.shared_site.specs.Turns.{LeadsFound}
 use Rattle.shared_site.proofs.Making.{counted, last_of, made_by, stays}
 use Rattle.shared_site.proofs.turns.OpenedTurn.run.Goals as goal
@@ -19,8 +19,6 @@ returns-clause-makes g c =
     c.args.yard.now c.speaker.new.self call.new.self
     (record { roll = spoke.speaks; beside = spoke.same; seats = spoke.seats })
     (subst (λ (found : Option _). Notes (event.Opened c.args.self.serial (is_some found)) (yard_roll c.speaker.new.self) (yard_roll call.new.self)) call.ensures.found call.ensures.noted)
-    (λ honest. subst (λ (found : Option _). option_map bytes found ≡ standing_of (yard_state c.speaker.new.self)
-    → LeadsOpened c.args.self.serial (option_map bytes found) (yard_state c.speaker.new.self) (yard_state call.new.self)) call.ensures.found (call.ensures.step honest))
     (λ left _. subst (λ (found : Option _). option_map bytes found ≡ standing_of (yard_over left c.speaker.new.self)
     → LeadsOpened c.args.self.serial (option_map bytes found) (yard_over left c.speaker.new.self) (yard_over left call.new.self)) call.ensures.found (call.ensures.beside left))
     call.ensures.same call.ensures.seats
@@ -39,5 +37,5 @@ returns-clause-counts g c =
 pub returns-clause-notes : goal.returns-clause-notes
 returns-clause-notes g c = λ _. (refl, (returns-clause-makes g c).noted)
 
-pub returns-then-ne-clause-notes : goal.returns-then-ne-clause-notes
-returns-then-ne-clause-notes g c = λ _. stays c.args.caller (yard_roll c.args.yard.now) (yard_roll c.speaker.new.self) c.speaker.ensures.speaks
+pub returns-then-not-is_admitted-clause-notes : goal.returns-then-not-is_admitted-clause-notes
+returns-then-not-is_admitted-clause-notes g c = λ _. stays c.args.caller (yard_roll c.args.yard.now) (yard_roll c.speaker.new.self) c.speaker.ensures.speaks

@@ -1,31 +1,31 @@
-use Rattle.std.proofs.Common.{ℕ, refl, rules, subst, sym}
+use Rattle.std.proofs.Common.{ℕ, refl, rules, subst, sym, ◌∙◌}
 use Rattle.server_events.specs.ServerState.{is_allowed}
 use Rattle.server_events.specs.declared.event.Event.TheVariants as event
 use Rattle.server_yard.specs.Yards.{yard_roll}
 use Rattle.shared_site.specs.Turns.{IsAt}
-use Rattle.shared_site.proofs.Making.{allowed_is, answered, counted, last_own, made_own, stays}
+use Rattle.shared_site.proofs.Making.{answered, counted, last_own, made_own, stays}
 use Rattle.shared_site.proofs.turns.StartedTurn.run.Goals as goal
 
 pub started-requires : goal.started-requires
 started-requires g c =
-    let at = subst (λ (i : ℕ). IsAt is_allowed c.args.self.serial c.speak_at.new.yard i) c.place.ensures (c.speak_at.ensures.stays is_allowed refl (search rules)) in
+    let at = subst (λ (i : ℕ). IsAt is_allowed c.args.self.serial c.speak_at.new.yard i) c.place.ensures (c.speak_at.ensures.stays is_allowed refl (sym c.is_allowed.ensures ∙ (search rules))) in
     record { allowed = at.has_stage }
 
 pub made-requires : goal.made-requires
 made-requires g c =
-    let at = subst (λ (i : ℕ). IsAt is_allowed c.args.self.serial c.speak_at.new.yard i) c.place.ensures (c.speak_at.ensures.stays is_allowed refl (search rules)) in
+    let at = subst (λ (i : ℕ). IsAt is_allowed c.args.self.serial c.speak_at.new.yard i) c.place.ensures (c.speak_at.ensures.stays is_allowed refl (sym c.is_allowed.ensures ∙ (search rules))) in
     record {
       last = last_own c.args.caller (λ (n : ℕ). event.Started n) _ c.args.self.serial _
           (yard_roll c.args.yard.now) (yard_roll c.speak_at.new.yard) (yard_roll c.started.new.self)
-          at.has_serial c.speak_at.ensures.spoken.roll c.started.ensures.noted c.of.ensures;
+          at.has_serial c.speak_at.ensures.spoken.roll c.started.ensures.noted c.of-event.ensures;
     }
 
 pub returns-clause-makes : goal.returns-clause-makes
 returns-clause-makes g c =
-    let at = subst (λ (i : ℕ). IsAt is_allowed c.args.self.serial c.speak_at.new.yard i) c.place.ensures (c.speak_at.ensures.stays is_allowed refl (search rules)) in
+    let at = subst (λ (i : ℕ). IsAt is_allowed c.args.self.serial c.speak_at.new.yard i) c.place.ensures (c.speak_at.ensures.stays is_allowed refl (sym c.is_allowed.ensures ∙ (search rules))) in
     let call = c.started in
     made_own c.args.caller (λ (n : ℕ). event.Started n) _ c.args.self.serial c.args.yard.now c.speak_at.new.yard call.new.self
-    at.has_serial c.speak_at.ensures.spoken call.ensures.noted call.ensures.step call.ensures.beside call.ensures.same call.ensures.seats
+    at.has_serial c.speak_at.ensures.spoken call.ensures.noted call.ensures.beside call.ensures.same call.ensures.seats
 
 pub returns-clause-counts : goal.returns-clause-counts
 returns-clause-counts g c =
@@ -34,16 +34,16 @@ returns-clause-counts g c =
 pub returns-clause-answers : goal.returns-clause-answers
 returns-clause-answers g c =
     answered c.args.caller (event.Started c.args.self.serial) _ c.made.result
-    (yard_roll c.args.yard.now) (yard_roll c.started.new.self) (returns-clause-makes g c).noted c.of.ensures c.made.ensures.its
+    (yard_roll c.args.yard.now) (yard_roll c.started.new.self) (returns-clause-makes g c).noted c.of-event.ensures c.made.ensures.its
 
 pub returns-clause-in_turn : goal.returns-clause-in_turn
-returns-clause-in_turn g c = (λ ok. subst (λ (i : ℕ). IsAt is_allowed c.args.self.serial c.args.yard.now i) c.place.ensures ((c.speak_at.ensures.passes is_allowed refl).0 (search rules)), λ at. refl)
+returns-clause-in_turn g c = (λ ok. subst (λ (i : ℕ). IsAt is_allowed c.args.self.serial c.args.yard.now i) c.place.ensures ((c.speak_at.ensures.passes is_allowed refl).0 (sym c.is_allowed.ensures ∙ (search rules))), λ at. refl)
 
-pub returns-then-ne-clause-in_turn : goal.returns-then-ne-clause-in_turn
-returns-then-ne-clause-in_turn g c = (λ ok. absurd (cc), λ at. let is = allowed_is _ ((c.speak_at.ensures.passes is_allowed refl).1 (subst (λ (i : ℕ). IsAt is_allowed c.args.self.serial c.args.yard.now i) (sym c.place.ensures) at)) in absurd (search (rules, is)))
+pub returns-then-not-is_allowed-clause-in_turn : goal.returns-then-not-is_allowed-clause-in_turn
+returns-then-not-is_allowed-clause-in_turn g c = (λ ok. absurd (cc), λ at. let is = (c.speak_at.ensures.passes is_allowed refl).1 (subst (λ (i : ℕ). IsAt is_allowed c.args.self.serial c.args.yard.now i) (sym c.place.ensures) at) in cc)
 
 pub returns-clause-notes : goal.returns-clause-notes
 returns-clause-notes g c = λ _. (refl, (returns-clause-makes g c).noted)
 
-pub returns-then-ne-clause-notes : goal.returns-then-ne-clause-notes
-returns-then-ne-clause-notes g c = λ _. stays c.args.caller (yard_roll c.args.yard.now) (yard_roll c.speak_at.new.yard) c.speak_at.ensures.spoken.roll
+pub returns-then-not-is_allowed-clause-notes : goal.returns-then-not-is_allowed-clause-notes
+returns-then-not-is_allowed-clause-notes g c = λ _. stays c.args.caller (yard_roll c.args.yard.now) (yard_roll c.speak_at.new.yard) c.speak_at.ensures.spoken.roll

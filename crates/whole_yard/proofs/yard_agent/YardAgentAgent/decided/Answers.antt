@@ -1,8 +1,11 @@
 -- Deciding.
 use Rattle.std.proofs.Common.{◌∙◌}
 use Rattle.server_events.specs.declared.event.Stage.TheVariants as stage
-use Rattle.server_yard.specs.Passes.{pass_serial}
+use Rattle.server_events.specs.declared.event.Event.TheVariants.{Decided}
+use Rattle.server_yard.specs.Passes.{pass_bytes, pass_serial}
+use Rattle.server_yard.specs.Standing.{LeadsDecided}
 use Rattle.server_yard.specs.Yards.{yard_server}
+use Rattle.whole_yard.proofs.Calling.{makes_beside}
 use Rattle.whole_yard.proofs.Standings.{peer_then, stage_then}
 use Rattle.whole_yard.proofs.yard_agent.YardAgentAgent.decided.Goals as goal
 
@@ -17,3 +20,11 @@ returns-clause-decided g c =
       has_peer = peer_then old new (pass_serial c.args.pass) next c.args.peer.now happens before.has_peer;
       has_stage = stage_then old new (pass_serial c.args.pass) next stage.Opened happens before.has_stage;
     }
+
+pub returns-clause-told : goal.returns-clause-told
+returns-clause-told g c =
+    let its = c.decided.ensures in
+    let serial = pass_serial c.args.pass in
+    makes_beside (LeadsDecided serial (pass_bytes g.D.File.RulesFile.bytes c.args.pass) c.args.decision)
+    (Decided serial c.args.decision) c.args.self.now.yard c.decided.new.self its.noted its.same
+    (λ honest left. its.beside left (g.met.D.Dir.honest_files honest))

@@ -4,12 +4,16 @@ use Rattle.std.specs.Prelude.{ℕ}
 use Rattle.server_events.specs.declared.event.Event.TheVariants.{StartFailed}
 use Rattle.server_yard.specs.Rolls.{number_at}
 use Rattle.server_yard.specs.Standing.{LeadsOn}
+use Rattle.server_yard.specs.Yards.{yard_seat}
 use Rattle.whole_yard.specs.YardAgents.{MakesEvent}
+use Rattle.whole_yard.proofs.Calling.{makes_beside}
 use Rattle.whole_yard.proofs.yard_agent.YardAgentAgent.start_failed.Goals as goal
 
 pub returns-clause-told : goal.returns-clause-told
 returns-clause-told g c =
     let old = c.args.self.now.yard in
     let new = c.left.new.self in
+    let m = number_at (yard_seat old c.args.place) in
     subst (λ (n : ℕ). MakesEvent (LeadsOn (StartFailed n c.args.fault)) (StartFailed n c.args.fault) old new)
-    (ap number_at c.requires.stands.seat) (record { noted = c.left.ensures.noted; step = c.left.ensures.step })
+    (ap number_at c.requires.stands.seat) (makes_beside (LeadsOn (StartFailed m c.args.fault)) (StartFailed m c.args.fault) old new
+    c.left.ensures.noted c.left.ensures.same (λ honest. c.left.ensures.beside))

@@ -7,9 +7,10 @@ use Rattle.server_events.specs.ServerState.{after}
 use Rattle.server_events.specs.declared.event.Event.TheVariants.{Started}
 use Rattle.server_events.specs.declared.event.Stage.TheVariants as stage
 use Rattle.server_yard.specs.Rolls.{number_at}
-use Rattle.server_yard.specs.Yards.{yard_server}
+use Rattle.server_yard.specs.Yards.{yard_seat, yard_server}
 use Rattle.server_yard.specs.Standing.{LeadsOn}
 use Rattle.whole_yard.specs.YardAgents.{MakesEvent}
+use Rattle.whole_yard.proofs.Calling.{makes_beside}
 use Rattle.whole_yard.proofs.Standings.{peer_then, stage_then}
 use Rattle.whole_yard.proofs.yard_agent.YardAgentAgent.started.Goals as goal
 
@@ -28,5 +29,7 @@ pub returns-clause-told : goal.returns-clause-told
 returns-clause-told g c =
     let old = c.args.self.now.yard in
     let new = c.started.new.self in
+    let m = number_at (yard_seat old (place_of c.args.running.now)) in
     subst (λ (n : ℕ). MakesEvent (LeadsOn (Started n)) (Started n) old new)
-    (ap number_at c.requires.stands.seat) (record { noted = c.started.ensures.noted; step = c.started.ensures.step })
+    (ap number_at c.requires.stands.seat) (makes_beside (LeadsOn (Started m)) (Started m) old new
+    c.started.ensures.noted c.started.ensures.same (λ honest. c.started.ensures.beside))
