@@ -174,16 +174,35 @@ def words_of(text, function):
 
 
 def texts_of(path, enum):
-    """The text of each variant of a fault: by their attributes, or else by the match of its function `text`."""
-    body = block(read(path), r"enum %s\b" % enum)
-    form = r'#\[error\("([^"]*)"([^\]]*)\)\]\s*(?:///[^\n]*\s*)*(\w+)(?:\((?:#\[from\] )?([\w&\' ]+)\))?'
+    """The text of each variant of a fault: by their attributes, by the match of its `Display` or of `parts`, or by that of its function `text`."""
+    source = read(path)
     kinds = words_of(read("rule_lines/src/fault.rt"), "as_str")
+    form = r'#\[error\("([^"]*)"([^\]]*)\)\]\s*(?:///[^\n]*\s*)*(\w+)(?:\((?:#\[from\] )?([\w&\' ]+)\))?'
     texts = {}
-    for text, more, variant, carried in re.findall(form, body):
+    for text, more, variant, carried in re.findall(form, block(source, r"enum %s\b" % enum)):
         named = re.search(r"LineKind::(\w+)", more)
         text = text.replace("{kind}", kinds[named.group(1)]) if named else text
         texts[variant] = text.replace("{0}", PLACES.get(carried, carried))
-    return texts or words_of(read(path), "text")
+    if texts or not re.search(r"Display for %s\b" % enum, source):
+        return texts or words_of(source, "text")
+    shown = block(source, r"Display for %s\b" % enum)
+    shown = body_of(source, "parts") if "self.parts(" in shown else shown
+    for variant, gives in re.findall(r"%s::(\w+)(?:\(\w+\))?\s*=>(.*?)(?=%s::\w+(?:\(\w+\))?\s*=>|\Z)" % (enum, enum), shown, re.S):
+        texts[variant] = text_given(gives, kinds)
+    return texts
+
+
+def text_given(gives, kinds):
+    """The text that an arm of a `Display` or of `parts` gives."""
+    named = re.search(r"LineKind::(\w+)\.fmt", gives)
+    if named:
+        return kinds[named.group(1)]
+    if ".fmt(" in gives:
+        return PLACES["LineFault"]
+    first, *rest = re.findall(r'"([^"]*)"', gives)
+    if "encode_utf8" in gives:
+        return first + PLACES["char"] + "".join(rest)
+    return first.replace("{line}", PLACES["u64"]).replace("{phase}", PLACES["Phase"])
 
 
 def code_of(value):
