@@ -53,7 +53,7 @@ impl<'a, L: Assumptions, R: Files<File = File>> Rules<L, RulesOnDisk> for Folder
     }
 
     fn error(&self, handle: &FolderHandle<'a, L, SystemDisk<&'a R>>) -> Option<i32> {
-        Some(handle.dir.disk().failure()?.error)
+        Some(handle.dir.failure()?.error)
     }
 
     fn damaged_rule(&self, alloc: Global, peer: &Peer) -> Option<String> {
