@@ -1,7 +1,7 @@
 //! What is left of a connection whose program runs.
 use crate::admission::Serving;
 use crate::means::{Means, Permit};
-use crate::threads::Second;
+use crate::threads::Sent;
 use std::sync::Wait;
 
 /// A connection whose program runs, with the thread that passes on what its client sends, if there is one. To drop it
@@ -12,7 +12,7 @@ pub(crate) struct GoingOn<'a, R: Wait, V: Serving<T>, T> {
     pub means: &'a Means,
     pub alive: V::Alive,
     pub permit: Permit,
-    pub second: Option<Second<V::Upward>>,
+    pub second: Option<Sent<V::Upward>>,
 }
 
 impl<R: Wait, V: Serving<T>, T> Drop for GoingOn<'_, R, V, T> {

@@ -253,12 +253,17 @@ impl Means {
         held.want(most).unwrap_or(Want::End)
     }
 
-    /// Waits before the next try to make a worker, but no longer once nobody is let in any more.
+    /// Waits before the next try to make a thread, but no longer once nobody can be served any more.
     pub fn pause<R: Wait + Clock>(&self, rt: &R, pause: Duration) {
+        let most = self.most;
         let held = self.held.lock(rt);
         drop(
-            self.wanted
-                .wait_timeout_while(rt, held, pause, |held| !held.is_over),
+            self.wanted.wait_timeout_while(
+                rt,
+                held,
+                pause,
+                |held| !held.is_over && held.retired < most,
+            ),
         );
     }
 
@@ -288,10 +293,10 @@ impl Means {
     }
 
     /// Waits for a pause, but no longer once a connection was let in or is over, or nobody is let in any more. If no
-    /// connection is served, it answers `false` at once.
+    /// connection is served and some may come, it answers `false` at once.
     pub fn wait_for_change<R: Wait + Clock>(&self, rt: &R, pause: Duration) -> bool {
         let held = self.held.lock(rt);
-        if held.served() == 0 {
+        if held.served() == 0 && !held.is_over {
             return false;
         }
         let before = held.changes;

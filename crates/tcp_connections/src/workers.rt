@@ -11,7 +11,7 @@ use crate::going_on::GoingOn;
 use crate::handover::Handover;
 use crate::means::{Means, Permit, Want};
 use crate::supply::{Reserve, Supply};
-use crate::threads::{Second, connection_thread, has_processes, start_waiting};
+use crate::threads::{Second, Sent, connection_thread, has_processes, start_waiting};
 use std::alloc::Global;
 use std::sync::atomic::{AtomicUsize, Ordering};
 use std::sync::{Arc, Mutex, RwLock, Wait};
@@ -166,12 +166,13 @@ where
 
     // Lets a connection in that came, and serves it up to the start of its program. `None` if it was refused, or nobody
     // is let in any more.
-    fn begin(&self, came: Q::Came) -> Begun<V, Q::Work> {
-        Some(self.server.begin(self.admit(came)?))
+    fn begin(&self, permit: &Permit, came: Q::Came) -> Begun<V, Q::Work> {
+        Some(self.server.begin(self.admit(permit, came)?))
     }
 
-    // Lets a connection in that came. `None` if it was refused, or nobody is let in any more.
-    fn admit(&self, came: Q::Came) -> Option<Q::Work> {
+    // Lets a connection in that came, if its worker has what it takes. `None` if it was refused, or nobody is let in any
+    // more.
+    fn admit(&self, _permit: &Permit, came: Q::Came) -> Option<Q::Work> {
         let mut door = self.door.lock(self.rt);
         if door.is_over() {
             drop(door);
@@ -191,9 +192,17 @@ where
     }
 
     // Counts an error of accepting. After one for want of descriptors or memory it waits first. If a connection was
-    // served then, the error is none of the hundred.
+    // served then, the error is none of the hundred. Once the server has come to its end, the error is that of its end.
     fn pause(&self, error: AcceptError) {
-        self.door.lock(self.rt).note(error);
+        let mut door = self.door.lock(self.rt);
+        let was_over = door.is_over();
+        if !was_over {
+            door.note(error);
+        }
+        drop(door);
+        if was_over {
+            return;
+        }
         if error.lacks_room && self.wait_while_scarce() {
             return;
         }
@@ -363,7 +372,7 @@ where
     fn come_to_work<'s, 'e>(&'s self, scope: &'s Scope<'s, &'e ()>, number: usize, beginning: u64) {
         self.come_up();
         let mut second = None;
-        if self.is_whole(scope, &mut second) && self.has_supplies(number, beginning) {
+        if self.provide_second(scope, &mut second) && self.has_supplies(number, beginning) {
             self.means.add(self.rt);
             self.came_up.give(self.rt, true);
             self.work(scope, &mut second);
@@ -371,12 +380,12 @@ where
             self.came_up.give(self.rt, false);
         }
         if let Some(second) = second {
-            second.close(self.rt);
+            second.sent.close(self.rt);
         }
     }
 
-    // Whether a worker has a second thread, if what clients send is passed on. If it lacks one it is started.
-    fn is_whole<'s, 'e>(
+    // Starts a second thread if a worker lacks one, and what clients send is passed on. Whether it has what it needs.
+    fn provide_second<'s, 'e>(
         &'s self,
         scope: &'s Scope<'s, &'e ()>,
         second: &mut Option<Second<V::Upward>>,
@@ -400,11 +409,11 @@ where
                     × IsSend A.row × IsSync A.row }
             { workers.pass_up_one(&his) },
         );
-        started.ok()?;
+        let thread = started.ok()?;
         if self.is_limited() {
             sent.wait(self.rt);
         }
-        Some(sent)
+        Some(Second { sent, thread })
     }
 
     // Lets in and serves one connection after another, until no more come. Then it waits until all are over: the system
@@ -419,7 +428,7 @@ where
             let Some(permit) = self.means.take(self.rt) else {
                 break;
             };
-            if !self.is_whole(scope, second) {
+            if !self.provide_second(scope, second) {
                 self.means.give_back(self.rt, permit);
                 self.means.pause(self.rt, pause.next());
                 continue;
@@ -445,7 +454,7 @@ where
         came: Q::Came,
         second: &mut Option<Second<V::Upward>>,
     ) {
-        match self.begin(came) {
+        match self.begin(&permit, came) {
             None => {
                 self.means.give_back(self.rt, permit);
                 return;
@@ -453,29 +462,32 @@ where
             Some(Err(over)) => self
                 .means
                 .ended(self.rt, permit, self.server.is_retired(&over)),
-            Some(Ok((upward, alive))) => {
-                let mut passes_up = None;
-                if let Some(upward) = upward {
-                    passes_up = second.take();
-                    if let Some(second) = &passes_up {
-                        second.give(self.rt, upward);
+            Some(Ok((upward, alive))) => match (upward, second.take()) {
+                (Some(upward), Some(his)) => {
+                    let Second { sent, thread } = his;
+                    sent.give(self.rt, upward);
+                    if self.go_on(scope, permit, alive, Some(sent)) {
+                        thread.join(self.rt);
                     }
                 }
-                self.go_on(scope, permit, alive, passes_up);
-            }
+                (_, unneeded) => {
+                    *second = unneeded;
+                    self.go_on(scope, permit, alive, None);
+                }
+            },
         }
         self.means.come_back(self.rt);
     }
 
-    // Goes on with a connection to its end. With one of many a thread does that, if there is one, which takes far less
-    // of a stack than a worker.
+    // Goes on with a connection. With one of many a thread does that, if there is one, which takes far less of a stack
+    // than a worker. Otherwise the connection is over at the return, as is told.
     fn go_on<'s, 'e>(
         &'s self,
         scope: &'s Scope<'s, &'e ()>,
         permit: Permit,
         alive: V::Alive,
-        second: Option<Second<V::Upward>>,
-    ) {
+        second: Option<Sent<V::Upward>>,
+    ) -> bool {
         let (permit, is_one_of_many) = self.means.began(self.rt, permit);
         let going_on = GoingOn {
             rt: self.rt,
@@ -487,9 +499,10 @@ where
         };
         if is_one_of_many && self.has_plenty() {
             self.start_ending(scope, going_on);
-        } else {
-            drop(going_on);
+            return false;
         }
+        drop(going_on);
+        true
     }
 
     // Starts a thread that goes on with a connection. Without a thread this one does.

@@ -14,6 +14,6 @@ returns-clause-told g c =
     let old = c.args.self.now.yard in
     let new = c.left.new.self in
     let m = number_at (yard_seat old c.args.place) in
-    subst (λ (n : ℕ). MakesEvent (LeadsOn (StartFailed n c.args.fault)) (StartFailed n c.args.fault) old new)
-    (ap number_at c.requires.stands.seat) (makes_beside (LeadsOn (StartFailed m c.args.fault)) (StartFailed m c.args.fault) old new
+    subst (λ (n : ℕ). MakesEvent (LeadsOn (StartFailed n c.args.refusal.fault)) (StartFailed n c.args.refusal.fault) old new)
+    (ap number_at c.requires.stands.seat) (makes_beside (LeadsOn (StartFailed m c.args.refusal.fault)) (StartFailed m c.args.refusal.fault) old new
     c.left.ensures.noted c.left.ensures.same (λ honest. c.left.ensures.beside))
