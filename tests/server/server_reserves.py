@@ -219,10 +219,12 @@ def kept_threads(suite):
     others = 2
     with suite.start(["-v", "-c", "100", "-k", "321"] + server_runs.QUIET, [shutil.which("cat")]) as server:
         def talking(count):
-            clients = [server.connect() for _ in range(count)]
-            for client in clients:
-                client.sendall(b"x")
-                suite.expect("%d at once" % count, client.recv(1), b"x")
+            # (each has its answer before the next one comes, so that few begin at once)
+            clients = []
+            for _ in range(count):
+                clients.append(server.connect())
+                clients[-1].sendall(b"x")
+                suite.expect("%d at once" % count, clients[-1].recv(1), b"x")
             return clients
 
         server_runs.wait_until("the first threads", lambda: server.threads() == others + each)
@@ -239,7 +241,7 @@ def kept_threads(suite):
         for client in clients:
             client.close()
         server_runs.wait_until("their ends", lambda: server.live() == 0)
-        suite.holds("threads after them", kept - 2 * each <= server.threads() <= kept + 2 * each, (server.threads(), kept))
+        server_runs.wait_until("threads after them", lambda: kept - each <= server.threads() <= kept + 2 * each)
         clients = talking(90)
         server_runs.wait_until("threads of ninety at once", lambda: server.threads() >= others + 91 * each)
         for client in clients:
