@@ -106,10 +106,10 @@ def room_while_some_are_alive(suite):
     """Want of room is none of the hundred faults while connections are alive: over a hundred of them end, and each end has the server try again."""
     run = failed_calls.Library(suite.folder).run_while("accept4", "EMFILE")
     with suite.start(["-v", "-c", "200"], GREETS, env=failing(run)) as server:
-        clients = [greeted(server) for _ in range(110)]
+        clients = [greeted(server) for _ in range(190)]
         run.turn(True)
         clients.append(server.connect())
-        for _ in range(106):
+        for _ in range(186):
             before = len(run.failed())
             clients.pop(0).close()
             server_runs.wait_until("another try", lambda before=before: len(run.failed()) > before or server.process.poll() is not None, PATIENCE)
