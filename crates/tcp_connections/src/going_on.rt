@@ -1,18 +1,19 @@
 //! What is left of a connection whose program runs.
 use crate::admission::Serving;
 use crate::means::{Means, Permit};
-use crate::threads::Sent;
+use crate::threads::Second;
 use std::sync::Wait;
 
-/// A connection whose program runs, with the thread that passes on what its client sends, if there is one. To drop it
-/// is to go on with it to its end. So none is lost on the way from one thread to another.
+/// A connection whose program runs, with the second thread that passes on what its client sends, if there is one. To
+/// drop it is to go on with it to its end, and to let the second thread go. So none is lost on the way from one thread
+/// to another.
 pub(crate) struct GoingOn<'a, R: Wait, V: Serving<T>, T> {
     pub rt: &'a R,
     pub server: &'a V,
     pub means: &'a Means,
     pub alive: V::Alive,
     pub permit: Permit,
-    pub second: Option<Sent<V::Upward>>,
+    pub second: Option<Second<V::Upward>>,
 }
 
 impl<R: Wait, V: Serving<T>, T> Drop for GoingOn<'_, R, V, T> {
@@ -28,6 +29,7 @@ impl<R: Wait, V: Serving<T>, T> Drop for GoingOn<'_, R, V, T> {
         let over = server.finish(alive);
         if let Some(second) = second {
             second.wait(rt);
+            second.close(rt);
         }
         means.ended(rt, permit, server.is_retired(&over));
     }

@@ -5,7 +5,7 @@ use crate::handover::Handover;
 use std::alloc::Global;
 use std::sync::{Arc, Wait};
 use std::thread;
-use std::thread::{Builder, JoinHandle, Scope, Threads};
+use std::thread::{Builder, Scope, Threads};
 
 /// How many bytes the stack of such a thread has: the least that a thread gets. Its calls are few and not deep, and
 /// were seen to take 50 KiB at most.
@@ -16,17 +16,8 @@ pub(crate) fn connection_thread() -> Builder {
     Builder::new().stack_size(STACK)
 }
 
-/// What gives the stream from a client to the thread that passes it on.
-pub(crate) type Sent<U> = Arc<Handover<U>, Global>;
-
-/// A thread that passes on what one client sends, and ends then.
-#[derive(Drop)]
-pub(crate) struct Second<U> {
-    /// Gives it the stream.
-    pub sent: Sent<U>,
-    /// The thread, for whoever waits for its end.
-    pub thread: JoinHandle<()>,
-}
+/// What gives streams from clients to a second thread, which passes them on, one after another.
+pub(crate) type Second<U> = Arc<Handover<U>, Global>;
 
 /// Starts a thread that only waits until `end` is closed. Whether the system had one.
 pub(crate) fn start_waiting<'a: 's, 's, E, R>(

@@ -11,7 +11,7 @@ use crate::going_on::GoingOn;
 use crate::handover::Handover;
 use crate::means::{Means, Permit, Want};
 use crate::supply::{Reserve, Supply};
-use crate::threads::{Second, Sent, connection_thread, has_processes, start_waiting};
+use crate::threads::{Second, connection_thread, has_processes, start_waiting};
 use std::alloc::Global;
 use std::sync::atomic::{AtomicUsize, Ordering};
 use std::sync::{Arc, Mutex, RwLock, Wait};
@@ -223,13 +223,15 @@ where
         was_any_served
     }
 
-    // Passes on what a client sends, if one comes.
-    fn pass_up_one(&self, sent: &Handover<V::Upward>) {
+    // Passes on what each client sends, one after another, until no more come.
+    fn pass_up_in_turn(&self, sent: &Handover<V::Upward>) {
         self.come_up();
-        sent.finish(self.rt);
-        if let Some(upward) = sent.take(self.rt) {
-            self.server.pass_up(upward);
+        for _ in self.rt.forever() {
             sent.finish(self.rt);
+            let Some(upward) = sent.take(self.rt) else {
+                return;
+            };
+            self.server.pass_up(upward);
         }
     }
 
@@ -380,7 +382,7 @@ where
             self.came_up.give(self.rt, false);
         }
         if let Some(second) = second {
-            second.sent.close(self.rt);
+            second.close(self.rt);
         }
     }
 
@@ -407,13 +409,13 @@ where
             move ||
                 requires { IsSync R.row × IsSync V.row × IsSend Q.row × IsSend V.Upward.row × IsSend V.Alive.row
                     × IsSend A.row × IsSync A.row }
-            { workers.pass_up_one(&his) },
+            { workers.pass_up_in_turn(&his) },
         );
-        let thread = started.ok()?;
+        started.ok()?;
         if self.is_limited() {
             sent.wait(self.rt);
         }
-        Some(Second { sent, thread })
+        Some(sent)
     }
 
     // Lets in and serves one connection after another, until no more come. Then it waits until all are over: the system
@@ -462,47 +464,46 @@ where
             Some(Err(over)) => self
                 .means
                 .ended(self.rt, permit, self.server.is_retired(&over)),
-            Some(Ok((upward, alive))) => match (upward, second.take()) {
-                (Some(upward), Some(his)) => {
-                    let Second { sent, thread } = his;
-                    sent.give(self.rt, upward);
-                    if self.go_on(scope, permit, alive, Some(sent)) {
-                        thread.join(self.rt);
-                    }
+            Some(Ok((upward, alive))) => {
+                let his = second.take();
+                if let (Some(upward), Some(his)) = (upward, &his) {
+                    his.give(self.rt, upward);
                 }
-                (_, unneeded) => {
-                    *second = unneeded;
-                    self.go_on(scope, permit, alive, None);
-                }
-            },
+                *second = self.go_on(scope, permit, alive, his);
+            }
         }
         self.means.come_back(self.rt);
     }
 
-    // Goes on with a connection. With one of many a thread does that, if there is one, which takes far less of a stack
-    // than a worker. Otherwise the connection is over at the return, as is told.
+    // Goes on with a connection to its end. The second thread is free again then. With one of many a thread goes on, if
+    // there is one, which takes far less of a stack than a worker, and the second thread goes with it.
     fn go_on<'s, 'e>(
         &'s self,
         scope: &'s Scope<'s, &'e ()>,
         permit: Permit,
         alive: V::Alive,
-        second: Option<Sent<V::Upward>>,
-    ) -> bool {
+        second: Option<Second<V::Upward>>,
+    ) -> Option<Second<V::Upward>> {
         let (permit, is_one_of_many) = self.means.began(self.rt, permit);
-        let going_on = GoingOn {
-            rt: self.rt,
-            server: self.server,
-            means: self.means,
-            alive,
-            permit,
-            second,
-        };
         if is_one_of_many && self.has_plenty() {
+            let going_on = GoingOn {
+                rt: self.rt,
+                server: self.server,
+                means: self.means,
+                alive,
+                permit,
+                second,
+            };
             self.start_ending(scope, going_on);
-            return false;
+            return None;
         }
-        drop(going_on);
-        true
+        let over = self.server.finish(alive);
+        if let Some(his) = &second {
+            his.wait(self.rt);
+        }
+        self.means
+            .ended(self.rt, permit, self.server.is_retired(&over));
+        second
     }
 
     // Starts a thread that goes on with a connection. Without a thread this one does.
