@@ -297,8 +297,8 @@ def idle_costs(suite):
         server_runs.wait_until("descriptors beside 60 sessions", lambda: server.descriptors() <= before[0])
         after = server.descriptors(), server.threads()
         suite.expect("descriptors beside 60 sessions", after[0], before[0])
-        # one for each, one for the next, and those that begin connections: eight, and more where programs start slowly
-        suite.holds("threads beside 60 sessions", after[1] <= before[1] + 61 + 20, (before, after))
+        # one for each, one for the next, and those that begin connections: all sixty at worst, of which 32 go on themselves
+        suite.holds("threads beside 60 sessions", after[1] <= before[1] + 61 + 28, (before, after))
         used = server.processor_time()
         time.sleep(0.5)
         suite.holds("time beside 60 idle sessions", server.processor_time() - used < 0.05)

@@ -184,7 +184,7 @@ def counts_in_a_crowd(suite):
     waits = ["sh", "-c", "echo hi; read a"]
     for number in (1, 3, 17):
         with suite.start(["-v", "-k", str(number)], waits) as server, contextlib.ExitStack() as clients:
-            came = [clients.enter_context(client) for client in (connected(server) for _ in range(40)) if client]
+            came = [clients.enter_context(server.try_to_connect()) for _ in range(40)]
             served = [client for client in came if greets(client)]
             suite.expect("served of 40 by -k %d" % number, len(served), number)
             suite.holds("nothing is listened to while %d programs run" % number, server.process.poll() is None and refuses(server))
@@ -194,18 +194,11 @@ def counts_in_a_crowd(suite):
             suite.audit("a crowd and -k %d" % number, server)
 
 
-def connected(server):
-    """A client; none where nobody listens any more."""
-    try:
-        return server.connect()
-    except ConnectionRefusedError:
-        return None
-
-
 def greets(client):
+    """Whether a client is served: others are reset, or came once nobody listened any more."""
     try:
         return client.recv(3) == b"hi\n"
-    except ConnectionResetError:
+    except OSError:
         return False
 
 
