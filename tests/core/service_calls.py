@@ -17,36 +17,36 @@ ONE = ["1", "0", "1", "1"]
 
 # name, what is asked of the server, the scripts of its jobs, how it ended, and the log behind its first lines
 CASES = [
-    ("a child that ends is told with its status", ONE, ["ek=7"], "Count, 0 alive, 0 kills", ENDED_WITH_7),
-    ("a child that cannot be waited for keeps its place", ONE, ["ek"], "Count, 1 alive, 2 kills", RETIRED),
-    ("a server whose places are all retired ends", ["1", "0", "2", "2"], ["ek"], "NoPlaces, 1 alive, 2 kills", RETIRED),
-    ("a program that is not found", ONE, ["n"], "Count, 0 alive, 0 kills", log_forms.log(log_forms.start(1, "not found"), IDLE)),
+    ("a child that ends is told with its status", ONE, ["ek=7"], "count, 0 alive, 0 kills", ENDED_WITH_7),
+    ("a child that cannot be waited for keeps its place", ONE, ["ek"], "count, 1 alive, 2 kills", RETIRED),
+    ("a server whose places are all retired ends", ["1", "0", "2", "2"], ["ek"], "no places, 1 alive, 2 kills", RETIRED),
+    ("a program that is not found", ONE, ["n"], "count, 0 alive, 0 kills", log_forms.log(log_forms.start(1, "not found"), IDLE)),
     (
         "a child without pipe ends is killed and waited for",
         ONE,
         ["k=s"],
-        "Count, 0 alive, 1 kills",
+        "count, 0 alive, 1 kills",
         NO_ENDS + log_forms.log(log_forms.end(1, "signal"), IDLE),
     ),
-    ("a child without pipe ends gets three kills", ONE, ["k"], "Count, 1 alive, 3 kills", NO_ENDS + RETIRED),
-    ("a child whose third wait answers", ONE, ["ek=fm7"], "Count, 0 alive, 2 kills", ENDED_WITH_7),
-    ("a kill that fails changes nothing", ONE, ["e=fm7"], "Count, 0 alive, 2 kills", ENDED_WITH_7),
+    ("a child without pipe ends gets three kills", ONE, ["k"], "count, 1 alive, 3 kills", NO_ENDS + RETIRED),
+    ("a child whose third wait answers", ONE, ["ek=fm7"], "count, 0 alive, 2 kills", ENDED_WITH_7),
+    ("a kill that fails changes nothing", ONE, ["e=fm7"], "count, 0 alive, 2 kills", ENDED_WITH_7),
 ]
 
 # a program between two pumps: its script, and how it ended
 PUMPED = 'given "down\\n.\\n"\nwritten "up\\nend"\n'
 NOT_PUMPED = 'given ""\nwritten ""\n'
 PROGRAMS = [
-    ("a program is pumped both ways and waited for once", "ek=3", "Ok(Code(3)), 0 kills, 1 waits\n" + PUMPED),
-    ("a program that is not found", "n", "Err(CannotStart), 0 kills, 0 waits\n" + NOT_PUMPED),
-    ("a program that is refused", "r", "Err(CannotStart), 0 kills, 0 waits\n" + NOT_PUMPED),
-    ("a program that can't be started", "o", "Err(CannotStart), 0 kills, 0 waits\n" + NOT_PUMPED),
-    ("a program that finds no memory", "m", "Err(OutOfMemory), 0 kills, 0 waits\n" + NOT_PUMPED),
-    ("a wait that fails is not made again", "ek=f3", "Err(Device), 0 kills, 1 waits\n" + PUMPED),
-    ("a wait without memory is not made again", "ek=m3", "Err(OutOfMemory), 0 kills, 1 waits\n" + PUMPED),
-    ("a program without pipe ends", "k=s", "Err(CannotStart), 1 kills, 1 waits\n" + NOT_PUMPED),
-    ("one whose kill fails", "=0", "Err(CannotStart), 1 kills, 1 waits\n" + NOT_PUMPED),
-    ("one whose kill and wait fail", "x=f", "Err(CannotStart), 1 kills, 1 waits\n" + NOT_PUMPED),
+    ("a program is pumped both ways and waited for once", "ek=3", "code 3, 0 kills, 1 waits\n" + PUMPED),
+    ("a program that is not found", "n", "cannot start, 0 kills, 0 waits\n" + NOT_PUMPED),
+    ("a program that is refused", "r", "cannot start, 0 kills, 0 waits\n" + NOT_PUMPED),
+    ("a program that can't be started", "o", "cannot start, 0 kills, 0 waits\n" + NOT_PUMPED),
+    ("a program that finds no memory", "m", "out of memory, 0 kills, 0 waits\n" + NOT_PUMPED),
+    ("a wait that fails is not made again", "ek=f3", "device fault, 0 kills, 1 waits\n" + PUMPED),
+    ("a wait without memory is not made again", "ek=m3", "out of memory, 0 kills, 1 waits\n" + PUMPED),
+    ("a program without pipe ends", "k=s", "cannot start, 1 kills, 1 waits\n" + NOT_PUMPED),
+    ("one whose kill fails", "=0", "cannot start, 1 kills, 1 waits\n" + NOT_PUMPED),
+    ("one whose kill and wait fail", "x=f", "cannot start, 1 kills, 1 waits\n" + NOT_PUMPED),
 ]
 
 # the lines of errors, and of them alone; here and below each byte is spelled, and none is made by a form
@@ -148,15 +148,15 @@ def serve(calls, asked, scripts):
 def check_longer(calls):
     """Servers of several connections, of whose log only a part is the same each time."""
     code, end, log = serve(calls, ["2", "0", "2", "2"], ["ek=a"])
-    calls.holds("two children live at once", (code, end) == (0, b"Count, 0 alive, 0 kills"), (code, end))
+    calls.holds("two children live at once", (code, end) == (0, b"count, 0 alive, 0 kills"), (code, end))
     for serial in (1, 2):
         calls.holds("two children live at once, and end", log_forms.log(log_forms.end(serial)) in log, log)
     code, end, log = serve(calls, ["2", "0", "4", "4"], ["ek", "ek=7"])
-    calls.holds("one place is retired and the other serves on", (code, end) == (0, b"Count, 1 alive, 2 kills"), (code, end))
+    calls.holds("one place is retired and the other serves on", (code, end) == (0, b"count, 1 alive, 2 kills"), (code, end))
     calls.holds("two places at first", log.startswith(log_forms.log(log_forms.status(0, 2))), log)
     calls.holds("and one of them taken for good", log.endswith(log_forms.log(log_forms.status(1, 2))), log)
     code, end, log = serve(calls, ["1", "0", "3", "-"], ["ek=7"])
-    calls.holds("a hundred faults of accepting end a server", (code, end) == (0, b"AcceptFaults, 0 alive, 0 kills"), (code, end))
+    calls.holds("a hundred faults of accepting end a server", (code, end) == (0, b"accept faults, 0 alive, 0 kills"), (code, end))
     calls.holds("after the last connection", log.endswith(log_forms.log(log_forms.end(3, 7), IDLE)), log)
 
 
@@ -196,7 +196,7 @@ def check_history(calls):
     """Two thousand connections of forty at once and three from an address: the log tells the very events of the server's history, in their order."""
     scripts = ["ek=%d" % (n % 10) for n in range(90)] + ["n", "m", "k=s", "ek=fs", "ek=ff3", "r", "ek", "k", "ek"] + ["ek=7"]
     code, end, history, log = served(calls, ["40", "0", "10000000", "2000", "3", "30"], scripts * 3)
-    calls.holds("two thousand connections end", (code, end.split(b", ")[:2]) == (0, [b"Count", b"9 alive"]), (code, end))
+    calls.holds("two thousand connections end", (code, end.split(b", ")[:2]) == (0, [b"count", b"9 alive"]), (code, end))
     events = [(caller, event_in(words)) for caller, *words in (line.split() for line in history.decode().splitlines())]
     first = [event for caller, event in events if caller == "1"]
     calls.holds("one caller lets them in, and no more", first == [("admitted", n) for n in range(1, 2001)], first[-1:])
@@ -230,7 +230,7 @@ def check(program, failures):
         calls.expect(name, serve(calls, asked, scripts), (0, end.encode(), FIRST + log))
     lost = log_forms.log(IDLE) + log_forms.log("out of memory") * 150 + ADMISSION + ENDED_WITH_7
     answer = serve(calls, ["1", "150", "1", "1"], ["ek=7"])
-    calls.expect("connections that find no memory are told and end no server", answer, (0, b"Count, 0 alive, 0 kills", lost))
+    calls.expect("connections that find no memory are told and end no server", answer, (0, b"count, 0 alive, 0 kills", lost))
     for name, script, answer in PROGRAMS:
         calls.ended(name, calls.run(["between", script]), 0, answer.encode())
     check_longer(calls)

@@ -15,16 +15,13 @@ use crate::slot::filled_slots;
 use crate::tables::Tables;
 use std::alloc::{AllocError, AllocFailed, Global};
 use std::marker::Model;
-use thiserror::Error;
 
 /// Why a pair was not added.
-#[derive(Clone, Copy, Debug, Error)]
+#[derive(Clone, Copy)]
 pub enum AddFault {
     /// The finished file would pass the limit.
-    #[error("compiled file too large")]
     TooLarge,
     /// There was no memory for it.
-    #[error("out of memory")]
     OutOfMemory,
 }
 

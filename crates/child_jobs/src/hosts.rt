@@ -14,7 +14,6 @@ use std::collections::{BTreeMap, BTreeSet};
 use std::marker::Model;
 use std::net::Ipv4Addr;
 use std::str;
-use thiserror::Error;
 
 /// The length of the longest name.
 const LONGEST: usize = 255;
@@ -23,14 +22,12 @@ const LONGEST: usize = 255;
 const ADDRESS: usize = 4;
 
 /// Why a text is no host table.
-#[derive(Clone, Copy, Debug, Error)]
+#[derive(Clone, Copy)]
 pub enum HostFault {
     /// The line with this number, from 1, is the first bad one. It is not ignored, and is neither an address and a
     /// name, nor a name and an address.
-    #[error("host table line {0}")]
     BadLine(u64),
     /// There was no memory.
-    #[error("out of memory")]
     OutOfMemory,
 }
 

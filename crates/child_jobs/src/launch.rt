@@ -10,7 +10,6 @@ use crate::{Environment, Exit, NotStarted};
 use std::alloc::Global;
 use std::io::{Read, Write};
 use std::marker::Model;
-use thiserror::Error;
 
 /// A program and its arguments.
 ///
@@ -55,19 +54,16 @@ impl Program {
 }
 
 /// Why a job could not be waited for or killed.
-#[derive(Clone, Copy, Debug, Error)]
+#[derive(Clone, Copy)]
 pub enum WaitFault {
     /// The system refused it.
-    #[error("the system refused it")]
     Failed,
     /// There was no memory.
-    #[error("out of memory")]
     OutOfMemory,
 }
 
 /// A job has no pipe ends to give: it was started without them, or gave them before.
-#[derive(Clone, Copy, Debug, Error)]
-#[error("no pipe ends")]
+#[derive(Clone, Copy)]
 pub struct NoEnds;
 
 /// A running program. It tells its program and its environment, which stay the same.

@@ -1,7 +1,7 @@
 //! How a child or a connection ends.
 
 /// How a child ended.
-#[derive(Clone, Copy, PartialEq, Eq, Debug)]
+#[derive(Clone, Copy, PartialEq, Eq)]
 pub enum Status {
     /// It exited with this code.
     Code(u8),
@@ -10,7 +10,7 @@ pub enum Status {
 }
 
 /// Why a child could not be started.
-#[derive(Clone, Copy, PartialEq, Eq, Debug)]
+#[derive(Clone, Copy, PartialEq, Eq)]
 pub enum StartFault {
     /// There is no such program.
     NotFound,
@@ -48,7 +48,7 @@ pub struct Exit {
 }
 
 /// Why a connection was dropped before a child was started.
-#[derive(Clone, Copy, PartialEq, Eq, Debug)]
+#[derive(Clone, Copy, PartialEq, Eq)]
 pub enum DropCause {
     /// A rule denied it.
     Denied,

@@ -11,19 +11,15 @@ use slab::Slab;
 use std::alloc::{AllocError, Global};
 use std::marker::Model;
 use std::sync::ledger::{Blank, Book, Ledger, Share};
-use thiserror::Error;
 
 /// Why no table was made.
-#[derive(Clone, Copy, Debug, Error)]
+#[derive(Clone, Copy)]
 pub enum TableFault {
     /// The limit is 0.
-    #[error("the limit is 0")]
     ZeroLimit,
     /// The limit per address is 0.
-    #[error("the limit per address is 0")]
     ZeroAddressLimit,
     /// There was no memory.
-    #[error("out of memory")]
     OutOfMemory,
 }
 
@@ -36,13 +32,11 @@ impl From<AllocError> for TableFault {
 }
 
 /// Why a peer gets no place.
-#[derive(Clone, Copy, Debug, Error)]
+#[derive(Clone, Copy)]
 pub enum PlaceFault {
     /// As many places are out as may be.
-    #[error("all places are taken")]
     Full,
     /// As many places of its address are out as may be.
-    #[error("all places of the address are taken")]
     FullForAddress,
 }
 

@@ -5,7 +5,7 @@ ghost use Rattle.dir_calls.specs.PhaseWords.{phase_text};
 use std::fmt;
 
 /// A phase: how far an installation has come.
-#[derive(Clone, Copy, PartialEq, Eq, Debug)]
+#[derive(Clone, Copy, PartialEq, Eq)]
 pub enum Phase {
     /// The scratch file was made, empty.
     Fresh,

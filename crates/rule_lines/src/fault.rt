@@ -8,7 +8,7 @@ use std::alloc::{AllocError, AllocFailed};
 use std::fmt;
 
 /// What is wrong with a line of a rule text. Of several the first one in this order is named.
-#[derive(Clone, Copy, PartialEq, Eq, Debug)]
+#[derive(Clone, Copy)]
 pub enum LineKind {
     /// The instructions begin with neither `allow` nor `deny`.
     NoVerdict,
@@ -50,7 +50,7 @@ impl fmt::Display for LineKind {
 }
 
 /// The first faulty line of a text, counted from 1, and its least kind.
-#[derive(Clone, Copy, PartialEq, Eq, Debug)]
+#[derive(Clone, Copy)]
 pub struct LineFault {
     /// The line's number, from 1; 0 where the whole text is too long.
     pub line: u64,
@@ -60,7 +60,7 @@ pub struct LineFault {
 
 impl fmt::Display for LineFault {
     fn fmt<W: fmt::Write>(&self, f: &mut fmt::Formatter<W>) -> fmt::Result {
-        if self.kind == LineKind::LongText {
+        if matches!(self.kind, LineKind::LongText) {
             return write!(f, "{}", self.kind);
         }
         write!(f, "line {}: {}", self.line, self.kind)

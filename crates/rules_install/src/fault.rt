@@ -6,29 +6,23 @@ ghost use Rattle.rules_install.specs.declared.fault.InstallFault.TheVariants.{Ou
 use dir_calls::{DirFault, Phase};
 use rule_lines::{LineFault, ParseFault};
 use std::alloc::{AllocError, AllocFailed};
-use thiserror::Error;
 
 /// Why an installation, or a step of one, fails.
-#[derive(Clone, Copy, Debug, Error)]
+#[derive(Clone, Copy)]
 pub enum InstallFault {
     /// The text is not accepted. The directory is as before.
-    #[error("{0}")]
     Line(LineFault),
     /// The compiled file would pass its limit. The directory is as before.
-    #[error("compiled file too large")]
     TooLarge,
     /// A call of the directory failed, on the way to this phase. The rules file is the old one. If the phase is `Named`
     /// or `Done`, it may be the new one. With `Done` the new one stands there, but until names are settled a stop may
     /// bring back what stood there at some moment since they last were. The installation is over.
-    #[error("{0}")]
     Disk(DirFault, Phase),
     /// An earlier step answered `Disk`. Nothing was done.
-    #[error("the installation is over")]
     Over,
     /// There was no memory, possibly for a call of the directory. A step has changed nothing then, and may be made
     /// again. After a whole installation the rules file is the old one, and the scratch name may stand for an
     /// unfinished file.
-    #[error("out of memory")]
     OutOfMemory,
 }
 

@@ -22,7 +22,7 @@ pub struct Report {
 }
 
 /// Why a list of events has no report.
-#[derive(Clone, Copy, PartialEq, Eq)]
+#[derive(Clone, Copy)]
 pub enum ReplayFault {
     /// The event at this position, counted from 1, is the first that may not happen there.
     IllegalEvent(u64),

@@ -1,7 +1,7 @@
 //! Why lines are not in a log.
 
 /// Why lines of an event are not in the log.
-#[derive(Clone, Copy, PartialEq, Eq)]
+#[derive(Clone, Copy)]
 pub enum LogFault {
     /// There was no memory for some of them. The others were written.
     OutOfMemory,

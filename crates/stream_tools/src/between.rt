@@ -22,7 +22,7 @@ use std::thread::{Promise, Threads};
 use std::{fmt, thread};
 
 /// Why a program could not be run between pumps.
-#[derive(Clone, Copy, Debug)]
+#[derive(Clone, Copy)]
 pub enum BetweenFault {
     /// It could not be started, gave no pipe ends, or its input got no thread.
     CannotStart,

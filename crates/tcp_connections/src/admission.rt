@@ -3,7 +3,7 @@ ghost use Rattle.std.specs.Prelude.{◌≡◌, ℕ, Bool, false, IsTrue};
 ghost use Rattle.tcp_connections.specs.Admissions.{LetsIn, OnSpent};
 
 /// How a server ended.
-#[derive(Clone, Copy, Debug)]
+#[derive(Clone, Copy)]
 pub enum ServeEnd {
     /// It let in as many connections as it was to serve.
     Count,

@@ -156,7 +156,7 @@ fn report_of<L: Assumptions>(
 ) -> OrWrong<Report> {
     let report = yard.journal().report();
     let history = in_order(alloc, receipts)?;
-    if replay(alloc, LIMIT, LIMIT, &history) == Ok(report) {
+    if replay(alloc, LIMIT, LIMIT, &history).ok() == Some(report) {
         Ok(report)
     } else {
         Err(Wrong)

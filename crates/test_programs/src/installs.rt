@@ -68,7 +68,10 @@ fn add_installed(done: &Result<(), InstallFault>, out: &mut Answer) {
             out.text(" at ");
             out.show(phase);
         }
-        Err(fault) => out.show(fault),
+        Err(InstallFault::Line(fault)) => out.show(fault),
+        Err(InstallFault::TooLarge) => out.text("compiled file too large"),
+        Err(InstallFault::Over) => out.text("the installation is over"),
+        Err(InstallFault::OutOfMemory) => out.text("out of memory"),
     }
 }
 

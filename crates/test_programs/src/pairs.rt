@@ -1,5 +1,5 @@
 //! Pairs as a compiled file. Each line of the standard input has a key, a tab and a value.
-use cdb_files::Maker;
+use cdb_files::{AddFault, Maker};
 use std::alloc::Global;
 use test_server::Answer;
 
@@ -28,7 +28,9 @@ fn add_file(alloc: Global, limit: u64, text: &str, out: &mut Answer) {
 
 /// Adds a pair to the file, or a line that says why it is refused.
 fn add_pair(maker: &mut Maker, key: &str, value: &str, out: &mut Answer) {
-    if let Err(fault) = maker.add(key.as_bytes(), value.as_bytes()) {
-        out.show_line(&fault);
+    match maker.add(key.as_bytes(), value.as_bytes()) {
+        Ok(()) => {}
+        Err(AddFault::TooLarge) => out.line("compiled file too large"),
+        Err(AddFault::OutOfMemory) => out.line("out of memory"),
     }
 }

@@ -85,14 +85,9 @@ impl Answer {
         self.end_line();
     }
 
-    /// Adds a value as `{:?}` shows it.
-    pub fn debug<T: Debug>(&mut self, value: &T) {
-        self.has_failed |= write!(self.bytes, "{value:?}").is_err();
-    }
-
     /// Adds a value as `{:?}` shows it, and ends the line.
     pub fn debug_line<T: Debug>(&mut self, value: &T) {
-        self.debug(value);
+        self.has_failed |= write!(self.bytes, "{value:?}").is_err();
         self.end_line();
     }
 

@@ -43,7 +43,11 @@ pub fn add_between<R: Threads + Wait + Clock + Sync>(
 ) {
     let (tally, written) = (ServedTally::new(alloc), Mutex::new(Vec::new(alloc)));
     let status = run(rt, alloc, scripts, &tally, &written);
-    out.debug(&status);
+    match status {
+        Ok(Status::Code(code)) => out.count("code ", u64::from(code)),
+        Ok(Status::Signal) => out.text("signal"),
+        Err(fault) => out.show(&fault),
+    }
     out.count(", ", tally.kills.load(Ordering::SeqCst));
     out.count(" kills, ", tally.waits.load(Ordering::SeqCst));
     out.line(" waits");

@@ -118,7 +118,8 @@ fn tell_faults<W: Write>(log: &mut Log<W>) -> Result<(), LogFault> {
         why: None,
     };
     log.tell(20, 0, denied)?;
-    if log.tell(14, 0, Told::Retired { serial: 4 }) != Err(LogFault::OutOfOrder) {
+    let early = log.tell(14, 0, Told::Retired { serial: 4 });
+    if !matches!(early, Err(LogFault::OutOfOrder)) {
         return Err(LogFault::WriteFault);
     }
     log.address_full([10, 0, 2, 7])?;

@@ -219,7 +219,13 @@ fn add_end<L: Assumptions, D: Dir + Drop>(
     tally: &ServedTally,
     out: &mut Answer,
 ) {
-    out.debug(end);
+    out.text(match end {
+        ServeEnd::Count => "count",
+        ServeEnd::Spent => "spent",
+        ServeEnd::NoPlaces => "no places",
+        ServeEnd::AcceptFaults => "accept faults",
+        ServeEnd::OutOfMemory => "out of memory",
+    });
     out.count(", ", yard.live());
     out.count(" alive, ", tally.kills.load(Ordering::SeqCst));
     out.text(" kills");
