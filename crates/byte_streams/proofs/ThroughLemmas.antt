@@ -1,6 +1,6 @@
 -- Texts that go through wrappers one behind the other.
-use Rattle.std.proofs.Common.{◌≡◌, ℕ, zero, suc, ◌+◌, ◌<◌, ◌≤◌, List, [], ◌∷◌, ◌++◌, length, take, drop, map, set, get_or, refl, sym, ap, subst, ◌∙◌, append_assoc, arith, add-one, drop-cons, take-suc-set, length-set}
-use Rattle.std.proofs.lemmas.List.{append-nil, drop-set-lt, drop_all, map-append, take_all}
+use Rattle.std.proofs.Common.{◌≡◌, ℕ, zero, suc, ◌+◌, ◌<◌, ◌≤◌, List, [], ◌∷◌, ◌++◌, length, take, drop, map, set, get_or, refl, sym, ap, subst, ◌∙◌, arith, add-one, drop-cons, take-suc-set, length-set}
+use Rattle.std.proofs.lemmas.List.{drop-set-lt, drop_all, take_all}
 use Rattle.std.specs.Prelude.{Err, Ok, OnOk, Result}
 use Rattle.std.specs.declared.alloc.AllocError.{AllocError}
 use Rattle.std.proofs.Math.Seq.{take-append_seam}
@@ -109,27 +109,6 @@ module _ {S : Type 0} where
   ends_step olds news position d s rest before from lent empty into final inside so_far lent_is empty_is into_is final_is =
       ends_more rest olds news position d s from final before inside so_far
       (final_is ∙ into_is ∙ ap (λ x. x ++ rest (get_or news position d) lent) empty_is ∙ ap (rest (get_or news position d)) lent_is)
-
-  -- the wrappers before the position are as at the beginning of a text
-  pub renewed_more : {V : Type 0} (olds news : List S) (position : ℕ) (d s : S) (rest whole : S → V) → position < length news → rest s ≡ whole (get_or news position d) → map rest (take position news) ++ map whole (drop position news) ≡ map whole olds → map rest (take (position + 1) (set news position s)) ++ map whole (drop (position + 1) (set news position s)) ≡ map whole olds
-  renewed_more olds news position d s rest whole inside same so_far =
-      let before = map rest (take position news) in
-      let behind = map whole (drop (position + 1) news) in
-      ap (λ l. map rest l ++ map whole (drop (position + 1) (set news position s))) (ap (λ n. take n (set news position s)) (add-one position) ∙ take-suc-set news position s inside)
-      ∙ ap (λ l. map rest (take position news ++ s ∷ []) ++ map whole l) (drop-set-lt (position + 1) news position s (omega arith))
-      ∙ ap (λ l. l ++ behind) (map-append rest (take position news) (s ∷ []))
-      ∙ append_assoc before (rest s ∷ []) behind
-      ∙ ap (λ v. before ++ v ∷ behind) same
-      ∙ ap (λ l. before ++ map whole l) (ap (λ n. get_or news position d ∷ drop n news) (add-one position) ∙ sym (drop-cons news position d inside))
-      ∙ so_far
-
-  pub renewed_end : (olds news : List S) (position : ℕ) (rest whole : S → List ℕ → List ℕ) → length news ≤ position → map rest (take position news) ++ map whole (drop position news) ≡ map whole olds → through rest news ≡ through whole olds
-  renewed_end olds news position rest whole all so_far =
-      through_same rest whole news olds
-      (sym (append-nil (map rest news))
-      ∙ ap (λ l. map rest l ++ []) (sym (take_all position news all))
-      ∙ ap (λ l. map rest (take position news) ++ map whole l) (sym (drop_all position news all))
-      ∙ so_far)
 
 -- what was lent of a vector stands in it again
 pub lent_back : {S : Type 0} (news olds : List S) (n : ℕ) → n ≡ length news → take n (news ++ drop (length news) olds) ≡ news

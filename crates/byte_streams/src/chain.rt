@@ -11,7 +11,7 @@ use std::mem;
 /// Why a chain refuses a piece.
 #[derive(Clone, Copy)]
 pub enum ChainFault {
-    /// A call since the last `renew` met want of memory, or was `finish`.
+    /// An earlier call met want of memory, or was `finish`.
     Failed,
     /// There was no memory.
     OutOfMemory,
@@ -56,7 +56,7 @@ impl<S: LineWrapper> Chain<S> {
         self.wrappers.is_empty()
     }
 
-    /// Whether it refuses all pieces: a call since the last `renew` met want of memory, or was `finish`.
+    /// Whether it refuses all pieces: a call met want of memory, or was `finish`.
     pub fn has_failed(&self) -> bool
         ensures { result ≡ has_failed self.now }
     {
@@ -90,7 +90,7 @@ impl<S: LineWrapper> Chain<S> {
         Ok(done?)
     }
 
-    /// Ends the text, and appends what the last wrapper still writes. The chain refuses all pieces until `renew`.
+    /// Ends the text, and appends what the last wrapper still writes. From then on the chain refuses all pieces.
     ///
     /// # Errors
     /// Those of `feed`.
@@ -109,16 +109,6 @@ impl<S: LineWrapper> Chain<S> {
         finish_through(&mut self.wrappers, &mut self.from, &mut self.into)?;
         out.extend_from_slice(&self.from)?;
         Ok(())
-    }
-
-    /// Begins a new text. It takes no memory.
-    pub fn renew(&mut self)
-        ensures renewed { through S.rest (wrappers_of self.new) ≡ through S.whole (wrappers_of self.old) }
-        ensures failed { has_failed self.new ≡ false }
-        ensures wholes { through S.whole (wrappers_of self.new) ≡ through S.whole (wrappers_of self.old) }
-    {
-        renew_all(&mut self.wrappers);
-        self.failed = false;
     }
 }
 
@@ -168,15 +158,6 @@ fn finish_through<S: LineWrapper>(
         mem::swap(from, into);
     }
     Ok(())
-}
-
-fn renew_all<S: LineWrapper>(wrappers: &mut [S])
-    ensures renewed { through S.rest wrappers.new ≡ through S.whole wrappers.old }
-    ensures wholes { through S.whole wrappers.new ≡ through S.whole wrappers.old }
-{
-    for position in 0..wrappers.len() {
-        wrappers[position].renew();
-    }
 }
 
 /// Feeds a wrapper its last piece, and ends its text.

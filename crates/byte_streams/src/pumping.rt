@@ -55,7 +55,7 @@ pub struct PumpEnd {
 ///
 /// It reads at most `most_reads` times. An interrupted read counts, with nothing read; an interrupted write is tried again.
 /// At the end of the reader the chain is finished and its rest is written. The tap sees each piece before it is
-/// written, and the end. The caller renews the chain before another stream.
+/// written, and the end.
 ///
 /// The end says what was written. At `ReadFault` and `ReadsOver` the chain is not finished, and all that it gave was
 /// written. At `WriteFault` and `ZeroWrite` a front of that was written. At `Failed` and `OutOfMemory` all that it gave

@@ -35,11 +35,6 @@ pub trait LineWrapper {
         ensures finished { OnOk result (out.new.items ≡ out.old.items ++ rest self.old []) }
         ensures unchanged { OnErr result (out.new.items ≡ out.old.items) }
         ensures same { whole self.new ≡ whole self.old };
-
-    /// Begins a new text. It takes no memory.
-    fn renew(&mut self)
-        ensures renewed { rest self.new ≡ whole self.old }
-        ensures same { whole self.new ≡ whole self.old };
 }
 
 /// Puts a carriage return before each line feed, as `addcr`.
@@ -92,8 +87,6 @@ impl LineWrapper for AddCr {
     fn finish(&mut self, _out: &mut Vec<u8>) -> Result<(), AllocError> {
         Ok(())
     }
-
-    fn renew(&mut self) {}
 }
 
 impl LineWrapper for DelCr {
@@ -111,10 +104,6 @@ impl LineWrapper for DelCr {
     fn finish(&mut self, _out: &mut Vec<u8>) -> Result<(), AllocError> {
         Ok(())
     }
-
-    fn renew(&mut self) {
-        self.held = false;
-    }
 }
 
 impl LineWrapper for FixCr {
@@ -131,28 +120,6 @@ impl LineWrapper for FixCr {
 
     fn finish(&mut self, _out: &mut Vec<u8>) -> Result<(), AllocError> {
         Ok(())
-    }
-
-    fn renew(&mut self) {
-        self.after_cr = false;
-    }
-}
-
-impl LineWrapper for Box<dyn LineWrapper + Send + Drop> {
-    ghost rest = { λ wrapper. (LineWrapper-box wrapper).rest wrapper.value };
-
-    ghost whole = { λ wrapper. (LineWrapper-box wrapper).whole wrapper.value };
-
-    fn feed(&mut self, piece: &[u8], out: &mut Vec<u8>) -> Result<(), AllocError> {
-        (**self).feed(piece, out)
-    }
-
-    fn finish(&mut self, out: &mut Vec<u8>) -> Result<(), AllocError> {
-        (**self).finish(out)
-    }
-
-    fn renew(&mut self) {
-        (**self).renew();
     }
 }
 

@@ -15,8 +15,8 @@ use crate::window::{FIRST_RECORD, FIRST_SLOTS, VALUE_PIECE, Window};
 use byteorder::{ByteOrder, LittleEndian};
 use dir_calls::RulesFile;
 use rule_lookup::{
-    CodeFault, DecideFault, FindFault, Instr, PairSource, RuleSource, Settings, decode_instr,
-    push_parts, push_settings, split_at_byte, split_verdict,
+    CodeFault, DecideFault, FindFault, Instr, RuleSource, Settings, decode_instr, push_parts,
+    push_settings, split_at_byte, split_verdict,
 };
 use std::alloc::Global;
 use std::marker::Model;
@@ -290,15 +290,6 @@ impl<F: RulesFile> CdbFile<F> {
         self.find_in_table(alloc, key, table, slots)
     }
 
-    /// The value of a record.
-    fn value_of(&self, alloc: Global, stored: Stored) -> Result<Vec<u8>, FindFault>
-        requires inside { IsTrue F.honest → IsInside (F.bytes self.now) stored }
-        ensures value { IsTrue F.honest → IfOk result (λ v. v.items ≡ value_of (F.bytes self.now) stored) }
-        ensures fault { IfErr result (ReadFails F.honest F.sound) }
-    {
-        self.bytes_at(alloc, stored.value_position(), stored.value_len as usize)
-    }
-
     /// Refuses a value that is no code by the piece that shows it; one that it lets pass may still be none.
     fn check_code(&self, alloc: Global, stored: Stored) -> Result<(), DecideFault>
         requires inside { IsTrue F.honest → IsInside (F.bytes self.now) stored }
@@ -489,22 +480,13 @@ impl<F: RulesFile> CdbFile<F> {
     }
 }
 
-impl<F: RulesFile> PairSource for CdbFile<F> {
+impl<F: RulesFile> RuleSource for CdbFile<F> {
     ghost finds = { λ source key. reading (F.bytes source) key };
 
     ghost trust = { λ _. trust_of F.honest F.sound };
 
     ghost may_fail = { λ _ _. trust_of F.honest F.sound ≢ Sound };
 
-    fn find(&self, alloc: Global, key: &[u8]) -> Result<Option<Vec<u8>>, FindFault> {
-        match self.find_record(alloc, key)? {
-            Some(stored) => Ok(Some(self.value_of(alloc, stored)?)),
-            None => Ok(None),
-        }
-    }
-}
-
-impl<F: RulesFile> RuleSource for CdbFile<F> {
     fn find_instr(&self, alloc: Global, key: &[u8]) -> Result<Option<Instr>, DecideFault> {
         match self.find_record(alloc, key) {
             Ok(Some(stored)) => Ok(Some(self.decode(alloc, stored)?)),

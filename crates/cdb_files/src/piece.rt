@@ -7,20 +7,6 @@ use crate::append::{append_pairs, append_record};
 use crate::slot::filled_slots;
 use std::alloc::{AllocError, Global};
 
-/// The bytes of a record: the lengths of its key and its value, the key, and the value.
-///
-/// # Errors
-/// There was no memory.
-pub fn record_piece(alloc: Global, key: &[u8], value: &[u8]) -> Result<Vec<u8>, AllocError>
-    requires key_fits { length key.now < 2 ^ 32 }
-    requires value_fits { length value.now < 2 ^ 32 }
-    ensures { IfOk result (λ piece. piece.items ≡ record_bytes key.now value.now) }
-{
-    let mut piece = Vec::with_capacity(alloc, 8 + key.len() + value.len())?;
-    append_record(&mut piece, key, value)?;
-    Ok(piece)
-}
-
 /// The slots of one table, by the hashes and positions of its records in order. Without records there are none.
 ///
 /// # Errors

@@ -197,13 +197,6 @@ impl<L: Ledger> PlaceTable<L> {
         self.per_address < self.limit && self.live_at(ip) == self.per_address
     }
 
-    /// How many places are retired.
-    pub fn retired(&self) -> u64
-        ensures { result ≡ self.now.retired }
-    {
-        self.retired
-    }
-
     /// How many places may be out at once.
     pub fn limit(&self) -> u64
         ensures { result ≡ self.now.limit }

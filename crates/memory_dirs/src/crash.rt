@@ -3,9 +3,9 @@ ghost use Rattle.std.specs.Prelude.{◌≡◌, ◌≤◌, map, length, take, dro
 ghost use Rattle.memory_dirs.specs.Entries.{change_of, names_in};
 ghost use Rattle.memory_dirs.specs.Folder.{directory_of, settled_directory};
 ghost use Rattle.memory_dirs.specs.Stored.{file_of};
-ghost use Rattle.dir_calls.specs.Stop.{chosen_bytes, chosen_changes, stopped_file, stopped, torn};
+ghost use Rattle.dir_calls.specs.Stop.{chosen_bytes, chosen_changes, stopped_file, stopped};
 
-use crate::entries::{Entry, after_edits, after_puts, copied_names};
+use crate::entries::{Entry, after_edits, copied_names};
 use crate::folder::Folder;
 use crate::stored::{Stored, close};
 use dir_calls::Choice;
@@ -85,15 +85,5 @@ pub fn stopped_folder(alloc: Global, folder: &Folder, choice: Choice) -> Result<
     let count = taken(folder, choice);
     let names = after_edits(alloc, &folder.origin, &folder.edits[..count])?;
     let files = left_files(alloc, &folder.files, choice)?;
-    settled_folder(alloc, names, files)
-}
-
-/// The directory as a stop leaves it if it tears changes of names. Synced files share their bytes.
-pub fn torn_folder(alloc: Global, folder: &Folder) -> Result<Folder, AllocError>
-    ensures { IfOk result (λ left. directory_of left ≡ torn (directory_of folder.now)) }
-{
-    let settled = after_edits(alloc, &folder.origin, &folder.edits[..folder.settled])?;
-    let names = after_puts(alloc, &settled, &folder.edits[folder.settled..])?;
-    let files = left_files(alloc, &folder.files, Choice::Junk)?;
     settled_folder(alloc, names, files)
 }

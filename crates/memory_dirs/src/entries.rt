@@ -4,7 +4,6 @@ ghost use Rattle.std.specs.FinMap.{get, insert, remove};
 ghost use Rattle.dir_calls.specs.NameTable.{same_name, after_change, after_changes};
 ghost use Rattle.dir_calls.specs.Pairs.{others as other_pairs};
 ghost use Rattle.memory_dirs.specs.Entries.{pair_of, names_in, change_of};
-ghost use Rattle.dir_calls.specs.Stop.{puts_of};
 
 use std::alloc::{AllocError, Global};
 
@@ -132,32 +131,4 @@ pub fn after_edits(
         left = after_edit(alloc, &left, edit)?;
     }
     Ok(left)
-}
-
-/// The names after what these changes put, in order, and without anything that they take away.
-pub fn after_puts(
-    alloc: Global,
-    names: &[Entry],
-    edits: &[NameEdit],
-) -> Result<Vec<Entry>, AllocError>
-    ensures { IfOk result (λ left.
-        names_in left.items ≡ after_changes (names_in names.now) (puts_of (map change_of edits.now))) }
-{
-    let mut left = copied_names(alloc, names)?;
-    for edit in edits {
-        left = after_put(alloc, left, edit)?;
-    }
-    Ok(left)
-}
-
-// The names after what a change puts.
-fn after_put(alloc: Global, names: Vec<Entry>, edit: &NameEdit) -> Result<Vec<Entry>, AllocError>
-    ensures { IfOk result (λ left.
-        names_in left.items ≡ after_changes (names_in names.items) (puts_of (change_of edit.now ∷ []))) }
-{
-    match edit {
-        NameEdit::Taken(_) => Ok(names),
-        NameEdit::Put(name, number) => with_name(alloc, &names, name, name, *number),
-        NameEdit::Moved(_, name, number) => with_name(alloc, &names, name, name, *number),
-    }
 }

@@ -7,15 +7,15 @@ ghost use Rattle.dir_calls.specs.Methods.{AppendsSome, CallElapses, CallIncludes
 ghost use Rattle.dir_calls.specs.Moments.{CountsFault};
 ghost use Rattle.dir_calls.specs.Images.{IsImage};
 ghost use Rattle.memory_dirs.specs.Folder.{directory_of, empty_directory};
-ghost use Rattle.dir_calls.specs.Stop.{stopped, torn};
+ghost use Rattle.dir_calls.specs.Stop.{stopped};
 ghost use Rattle.memory_dirs.specs.Past.{LeftSince, past_call, left_now};
 ghost use Rattle.dir_calls.specs.Replacing.{KeepsWhatLasts};
 ghost use Rattle.std.proofs.Common.{inl};
 
-use crate::crash::{stopped_folder, torn_folder};
+use crate::crash::stopped_folder;
 use crate::folder::Folder;
 use crate::mem_file::MemFile;
-use dir_calls::{Choice, ClearableDir, Dir, DirFault, Name};
+use dir_calls::{Choice, Dir, DirFault, Name};
 use http_server::Log;
 use std::alloc::{AllocError, Global};
 
@@ -50,18 +50,6 @@ impl MemDir {
     {
         Ok(MemDir {
             folder: stopped_folder(alloc, &self.folder, choice)?,
-            past: Log::new(),
-        })
-    }
-
-    /// The directory that a stop now leaves if it tears changes of names. Each name that was put stands, and none is
-    /// taken away: after a rename both names stand for the file. In files that are not synced each byte is 255.
-    pub fn crash_torn(&self, alloc: Global) -> Result<MemDir, AllocError>
-        ensures chosen { IfOk result (λ left. mem_state left ≡ torn (mem_state self.now)) }
-        ensures image { IfOk result (λ left. IsImage (mem_state self.now) (mem_state left)) }
-    {
-        Ok(MemDir {
-            folder: torn_folder(alloc, &self.folder)?,
             past: Log::new(),
         })
     }
@@ -168,27 +156,5 @@ impl Dir for MemDir {
 
     fn failures(&self) -> u64 {
         0
-    }
-}
-
-impl ClearableDir for MemDir {
-    ghost use Rattle.memory_dirs.specs.MemDir.{mem_state};
-
-    fn take_away(&mut self, alloc: Global, name: &Name) -> Result<(), DirFault>
-        // a change of names like the others: pending until it is settled
-        ensures does { OnOk result (mem_state self.new ≡ closed (without (mem_state self.old) name.now)) }
-        ensures untouched { OnErr result (mem_state self.new ≡ mem_state self.old) }
-        ensures gone { OnOk result (number_of (mem_state self.new) name.now ≡ None) }
-        ensures others { SparesOthers name.now (mem_state self.old) (mem_state self.new) }
-        ensures stays { (other : List ℕ) → name.now ≢ other
-            → KeepsWhatLasts ⟦<MemDir as Dir>⟧ other self.old self.new }
-        ensures faults { IfErr result (Contains (DirFault.Device ∷ DirFault.OutOfMemory ∷ [])) }
-        ensures counted { CountsFault 0 0 result }
-    {
-        let past = self.past.and(&self.folder, &None);
-        self.folder.take(alloc, name.as_str().as_bytes())?;
-        self.folder.leave();
-        self.past = past;
-        Ok(())
     }
 }

@@ -5,7 +5,7 @@
 //! fault of the first faulty line. `accept` answers the same and keeps nothing. Each `RuleList` has the rules of some
 //! accepted text (`of_text`), and the crates above rest on that. A list keeps its text, with codes in the place of
 //! instructions; contracts speak of the list of rules, one for each address. `write_rule` reads rules one after
-//! another; `get` looks from the first line on. By `laws::accepted` a list decides each peer as its text does. That
+//! another. By `laws::accepted` a list decides each peer as its text does. That
 //! parsing succeeds with ample memory is tested only.
 #![tactic(auto)]
 
@@ -15,7 +15,6 @@ mod kept;
 pub mod laws;
 pub mod limits;
 pub mod list;
-pub mod list_pairs;
 mod open_range;
 pub mod spread;
 pub mod text;
@@ -23,6 +22,5 @@ pub mod text;
 pub use fault::{LineFault, LineKind, ParseFault};
 pub use instructions::{FirstSetting, first_setting, read_verdict};
 pub use limits::Limits;
-pub use list::{Pair, RuleList, StoredRule};
-pub use list_pairs::ListPairs;
+pub use list::{RuleList, StoredRule};
 pub use text::{accept, parse, parse_owned};

@@ -49,7 +49,7 @@ impl Model for RuleList {
 
 /// A rule of a list: an address with its instruction, lent by the list.
 #[derive(Drop)]
-pub struct Pair<'a> {
+struct Pair<'a> {
     line: KeptLine<'a>,
     /// Which of the line's addresses it has.
     position: usize,
@@ -71,18 +71,8 @@ impl<'a> Model for Pair<'a> {
 }
 
 impl<'a> Pair<'a> {
-    /// Adds the address at the end of `out`. For want of memory nothing is added.
-    pub fn append_address(&self, out: &mut Vec<u8>) -> Result<(), AllocError>
-        ensures ok { OnOk result (out.new.items ≡ out.old.items ++ self.now.address) }
-        ensures err { OnErr result (out.new.items ≡ out.old.items) }
-    {
-        let whole = out.len();
-        let done = self.append_parts(out);
-        whole_or_none(out, whole, done)
-    }
-
     /// Adds the address at the end of `out`. After an `Err` there may be any more bytes at the end.
-    fn append_parts(&self, out: &mut Vec<u8>) -> Result<(), AllocError>
+    fn append_address(&self, out: &mut Vec<u8>) -> Result<(), AllocError>
         ensures { AppendsPart self.now.address out.old.items out.new.items result }
     {
         match self.line.addresses {
@@ -100,23 +90,10 @@ impl<'a> Pair<'a> {
     }
 
     /// The code of the instruction.
-    pub fn code(&self) -> &'a [u8]
+    fn code(&self) -> &'a [u8]
         ensures { result.now ≡ code_of self.now.instr }
     {
         self.line.code
-    }
-
-    /// The instruction.
-    pub fn instr(&self, alloc: Global) -> Result<Instr, AllocError>
-        ensures { IfOk result (λ i. i ≡ self.now.instr) }
-    {
-        match decode_instr(alloc, self.line.code) {
-            Ok(instr) => Ok(instr),
-            Err(DecodeFault::OutOfMemory) => Err(AllocError),
-            Err(DecodeFault::Code(_)) => unreachable!(
-                "the code of a rule is the code of an instruction"
-            ),
-        }
     }
 }
 
@@ -179,28 +156,6 @@ impl RuleList {
         let _ = &self.kept;
     }
 
-    /// Whether there is none.
-    pub fn is_empty(&self) -> bool
-        ensures { result ≡ (length self.now == 0) }
-    {
-        self.tally.rules == 0
-    }
-
-    /// The rule at position `i`, from 0, or `None` past the end. The lines before it are gone over, but for those before a position that was
-    /// written last (`write_rule`), where that is not behind it.
-    pub fn get(&self, i: usize) -> Option<Pair<'_>>
-        ensures { result ≡ slice_get self.now i }
-    {
-        if i >= self.tally.rules {
-            return None;
-        }
-        let found = rule_at(&self.kept, self.near.not_behind(i), i)?;
-        Some(Pair {
-            line: found.line,
-            position: found.position,
-        })
-    }
-
     /// Puts the rule at position `i`, from 0, into `rule`, and says whether there is one. Where rules are written one after another, each
     /// line is read once for each of its rules.
     ///
@@ -244,37 +199,6 @@ impl RuleList {
             range: OpenRange::closed(alloc),
         })
     }
-
-    /// The code of the first rule with this address.
-    pub fn find(&self, address: &[u8]) -> Option<&[u8]>
-        ensures { code_found result ≡ found_among self.now address.now }
-    {
-        let mut rest = self.kept.as_slice();
-        while !rest.is_empty() {
-            let (line, after) = first_kept(rest);
-            if line.has_address(address) {
-                return Some(line.code);
-            }
-            rest = after;
-        }
-        None
-    }
-}
-
-impl KeptLine<'_> {
-    /// Whether an address is one of those of the line.
-    fn has_address(&self, address: &[u8]) -> bool
-        ensures { IsTrue result ↔ Contains (addresses_read self.now.addresses) address.now }
-    {
-        match self.addresses {
-            ReadAddress::One(own) => is_folded(own, address),
-            ReadAddress::Range {
-                front,
-                numbers,
-                back,
-            } => is_named(front, numbers, back, address),
-        }
-    }
 }
 
 /// Adds an address with its letters from the first `=` on in lower case. For want of memory nothing is added.
@@ -287,72 +211,4 @@ fn append_folded(out: &mut Vec<u8>, address: &[u8]) -> Result<(), AllocError>
     out.extend_from_slice(address)?;
     out[start + position..].make_ascii_lowercase();
     Ok(())
-}
-
-/// Whether an address is one of those of a range: the two parts with one of the numbers between them.
-fn is_named(front: &[u8], numbers: Numbers, back: &[u8], address: &[u8]) -> bool
-    ensures { IsTrue result ↔ Contains (addresses_under front.now numbers back.now) address.now }
-{
-    match number_between(front, address, back) {
-        Some(number) => is_among(numbers, number),
-        None => false,
-    }
-}
-
-/// Whether bytes are an address with its letters from the first `=` on in lower case.
-fn is_folded(address: &[u8], bytes: &[u8]) -> bool
-    ensures { IsTrue result ↔ (folded address.now ≡ bytes.now) }
-{
-    let position = memchr(b'=', address).unwrap_or(address.len());
-    address.len() == bytes.len()
-        && address[..position] == bytes[..position]
-        && is_lowered(&address[position..], &bytes[position..])
-}
-
-/// Whether bytes are others with their letters in lower case.
-fn is_lowered(bytes: &[u8], lowered: &[u8]) -> bool
-    requires { length bytes.now ≡ length lowered.now }
-    ensures { IsTrue result ↔ (map to_ascii_lowercase bytes.now ≡ lowered.now) }
-{
-    for position in 0..bytes.len() {
-        if bytes[position].to_ascii_lowercase() != lowered[position] {
-            return false;
-        }
-    }
-    true
-}
-
-/// Whether a number is one of those of a range.
-fn is_among(numbers: Numbers, number: u32) -> bool
-    ensures { IsTrue result ↔ (numbers.first ≤ number) × (number < numbers.first + numbers.count) }
-{
-    let first = u32::from(numbers.first);
-    first <= number && number < first + u32::from(numbers.count)
-}
-
-/// The number whose decimal text stands between the two parts of an address, if it has these parts and a number between them.
-fn number_between(front: &[u8], address: &[u8], back: &[u8]) -> Option<u32>
-    ensures { MatchOption result
-        ((n : ℕ) → n < 2 ^ 32 → front.now ++ decimal n ++ back.now ≢ address.now)
-        (λ n. front.now ++ decimal n ++ back.now ≡ address.now) }
-{
-    number_in(address.strip_prefix(front)?.strip_suffix(back)?)
-}
-
-/// The number whose decimal text, without leading zeros, the bytes are.
-fn number_in(text: &[u8]) -> Option<u32>
-    ensures { MatchOption result
-        ((n : ℕ) → n < 2 ^ 32 → decimal n ≢ text.now)
-        (λ n. decimal n ≡ text.now) }
-{
-    if text.len() > 10 {
-        return None;
-    }
-    let number = str::from_utf8(text).ok()?.parse::<u32>().ok()?;
-    let mut buffer = Buffer::new();
-    if buffer.format(number).as_bytes() == text {
-        Some(number)
-    } else {
-        None
-    }
 }

@@ -78,25 +78,6 @@ pub fn split_at_byte(byte: u8, bytes: &[u8]) -> Option<(&[u8], &[u8])>
     Some((&bytes[..position], &bytes[position + 1..]))
 }
 
-/// The code of an instruction: `D` and a zero byte for deny, nothing for allow, then `+NAME=VALUE` and a zero byte for each
-/// setting in order.
-pub fn encode_instr(alloc: Global, instr: &Instr) -> Result<Vec<u8>, AllocError>
-    ensures code { IfOk result (λ code. code.items ≡ code_of instr.now) }
-    ensures known { IsInstr instr.now }
-{
-    let settings = instr.settings.as_slice();
-    let mut code = Vec::new(alloc);
-    append_verdict(instr.verdict, &mut code)?;
-    for setting in settings {
-        append_setting(
-            setting.name().as_bytes(),
-            setting.value().as_bytes(),
-            &mut code,
-        )?;
-    }
-    Ok(code)
-}
-
 /// The verdict of a code, and the codes of its settings.
 pub fn split_verdict(bytes: &[u8]) -> (Verdict, &[u8])
     ensures verdict { result.0 ≡ verdict_in bytes.now }

@@ -137,13 +137,4 @@ pub struct Instr {
 }
 
 impl Instr {
-    /// An equal instruction.
-    pub fn copy(&self, alloc: Global) -> Result<Instr, AllocError>
-        ensures { IfOk result (λ i. i ≡ self.now) }
-    {
-        Ok(Instr {
-            verdict: self.verdict,
-            settings: self.settings.copy(alloc)?,
-        })
-    }
 }

@@ -15,7 +15,7 @@ use Rattle.server_words.specs.declared.level.Level.TheVariants.{Quiet, Errors}
 use Rattle.server_words.specs.declared.mode.Mode.{Mode}
 use Rattle.server_words.specs.declared.mode.Mode.TheVariants.{HandedOver, Pumped}
 use Rattle.server_words.specs.declared.wrapping.LineWrapperName.TheVariants.{AddCr, DelCr, FixCr}
-use Rattle.server_words.specs.Faults.{fault_line}
+use Rattle.server_words.specs.Faults.{fault_text}
 use Rattle.server_words.specs.Operands.{address_in, port_in}
 use Rattle.server_words.specs.Plans.{ServerPlan, plan_of}
 use Rattle.server_words.specs.Wrappings.{wrapping_in}
@@ -182,9 +182,9 @@ empty_wrapper : wrapping_in (Some []) ≡ None
 empty_wrapper = refl
 
 -- what is printed
-usage : fault_line fault.Usage ≡ codes "tcpserver: usage: tcpserver [options] host port prog [args]\n"
+usage : fault_text fault.Usage ≡ codes "usage: tcpserver [options] host port prog [args]"
 usage = refl
 
-bad_number : fault_line (fault.BadNumber 99) ≡ codes "tcpserver: option -c has a bad number\n"
+bad_number : fault_text (fault.BadNumber 99) ≡ codes "option -c has a bad number"
 unfolding encode
 bad_number = refl

@@ -23,10 +23,6 @@ fault_text fault.Usage = codes "usage: tcpserver [options] host port prog [args]
 fault_text fault.BadWrappers = codes "bad wrappers"
 fault_text fault.OutOfMemory = codes "out of memory"
 
--- its line
-abbrev pub fault_line : ServerWordsFault → List ℕ
-fault_line f = codes "tcpserver: " ++ fault_text f ++ codes "\n"
-
 -- wrong words end the program with 100, want of memory with 111
 abbrev pub exit_of : ServerWordsFault → ℕ
 exit_of (fault.UnknownOption letter) = 100

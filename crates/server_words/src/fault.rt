@@ -1,11 +1,9 @@
 //! Why the words of `tcpserver` are refused, what is printed of it, and the exit code.
 ghost use Rattle.std.specs.Prelude.{◌≡◌, ◌++◌};
-ghost use Rattle.byte_text.specs.Outcomes.{AppendsLine, AppendsPart};
 ghost use Rattle.server_words.specs.declared.fault.ServerWordsFault.TheVariants.{OutOfMemory};
-ghost use Rattle.server_words.specs.Faults.{exit_of, fault_line, fault_of_word, fault_text};
+ghost use Rattle.server_words.specs.Faults.{exit_of, fault_of_word, fault_text};
 
 use crate::WordFault;
-use byte_text::{push_text, whole_or_none};
 use std::alloc::{AllocError, AllocFailed};
 use std::error::Error;
 use std::fmt;
@@ -31,36 +29,6 @@ pub enum ServerWordsFault {
 }
 
 impl ServerWordsFault {
-    /// Appends the line that tells the fault, with the tool's name before it and a line feed behind.
-    ///
-    /// # Errors
-    /// There was no memory, and nothing was appended.
-    pub fn append_line(self, out: &mut Vec<u8>) -> Result<(), AllocError>
-        ensures { AppendsLine (fault_line self) out.old.items out.new.items result }
-    {
-        let whole = out.len();
-        let done = self.push_line(out);
-        whole_or_none(out, whole, done)
-    }
-
-    fn push_line(self, out: &mut Vec<u8>) -> Result<(), AllocError>
-        ensures { AppendsPart (fault_line self) out.old.items out.new.items result }
-    {
-        push_text(out, "tcpserver: ")?;
-        self.push_fault(out)?;
-        push_text(out, "\n")
-    }
-
-    fn push_fault(self, out: &mut Vec<u8>) -> Result<(), AllocError>
-        ensures { AppendsPart (fault_text self) out.old.items out.new.items result }
-    {
-        let mut buffer = [0u8; 4];
-        let (before, letter, after) = self.parts(&mut buffer);
-        push_text(out, before)?;
-        push_text(out, letter)?;
-        push_text(out, after)
-    }
-
     /// What is told of the fault: a text, the letter of an option if it is about one, and the text behind that.
     fn parts(self, buffer: &mut [u8; 4]) -> (&'static str, &str, &'static str)
         ensures { result.0.now ++ result.1.now ++ result.2.now ≡ fault_text self }

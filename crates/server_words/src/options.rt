@@ -53,13 +53,6 @@ impl<'a> Options<'a> {
         Ok(())
     }
 
-    /// The options in their order.
-    pub fn as_slice(&self) -> &[OptionGiven<'a>]
-        ensures { map letter_of result.now ≡ self.now }
-    {
-        self.given.as_slice()
-    }
-
     /// Whether a letter was given.
     pub fn has(&self, letter: char) -> bool
         ensures { result ≡ is_given self.now letter }

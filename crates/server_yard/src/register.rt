@@ -38,14 +38,6 @@ pub enum AdmitFault {
     OutOfMemory,
 }
 
-impl From<AllocError> for AdmitFault {
-    ghost from_gives = { λ _ fault. fault ≡ OutOfMemory };
-
-    fn from(_error: AllocError) -> AdmitFault {
-        AdmitFault::OutOfMemory
-    }
-}
-
 // How many events a connection may have, the first among them.
 const EVENTS: usize = 5;
 

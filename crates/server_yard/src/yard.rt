@@ -159,13 +159,6 @@ impl<L: Assumptions, D: Dir + Drop> Yard<L, D> {
         }
     }
 
-    /// The directory, to look at.
-    pub fn directory(&self) -> &D
-        ensures { result.now ≡ yard_directory self.now }
-    {
-        &self.dir
-    }
-
     /// The journal.
     pub fn journal(&self) -> &Journal
         ensures { result.now ≡ yard_journal self.now }

@@ -48,13 +48,6 @@ impl Made {
         self.at
     }
 
-    /// The number of the caller that made it, from 1.
-    pub fn caller(&self) -> u64
-        ensures { result ≡ (receipt_of self.now).caller }
-    {
-        self.caller
-    }
-
     /// Its receipt, with the event itself.
     pub fn receipt(self, event: Event) -> Receipt
         requires its_event { made_event self ≡ event }

@@ -5,9 +5,9 @@
 //! the ground of the site, the runtime, the rules, the log, and the streams and programs of connections. An agent stands
 //! on the first four (`AgentGround`).
 //! At the end both callers are back and as many connections are alive as are retired; `serve` looks at the last, and
-//! answers `Unfinished` if it is not so. The events of its site are a run, which `whole_yard::laws::service_run` is
-//! about. The life of a connection is one value after another: `Admitted`, `Started`, `Alive`, `Over`. None of the first
-//! three can be let go, and an end can't be told twice. `LoggedAgent` is the agent over which `serve_one` runs. Tested
+//! says `has_lost` if it is not so. The events of its site are a run, which `whole_yard::laws::service_run` is
+//! about. The life of a connection is one value after another: `Admitted`, `Alive`, `Over`. Neither of the first
+//! two can be let go, and an end can't be told twice. `LoggedAgent` is the agent over which `serve_one` runs. Tested
 //! only: bytes pass through the two pumps of their connection, and no event comes out of turn.
 #![tactic(auto)]
 
@@ -31,7 +31,7 @@ pub use opening::{Rules, RulesHandle};
 pub use server_log::Log;
 pub use server_words::{ConnectionLimits, Level, Mode};
 pub use service::Service;
-pub use serving::{Closed, Unfinished, serve};
+pub use serving::{Closed, serve};
 pub use tcp_connections::{
     AcceptError, Accepted, Acceptor, Errors, Follow, HostNames, Patience, Reserve, ServeEnd, Shut,
     Starter, Supply,

@@ -17,7 +17,7 @@ use crate::wrappers::{Chains, chains_of};
 use child_jobs::{DropCause, Local, Place, Running};
 use one_connection::{Agent, Served, serve_one};
 use rule_lookup::Peer;
-use shared_site::{Ground, Made};
+use shared_site::Made;
 use std::snapshot::Snapshot;
 use tcp_connections::{ConnectionLauncher, Shut, wait_in_rounds};
 
@@ -34,20 +34,9 @@ pub(crate) struct Admitted<'a, H: Host> {
     pub(crate) ghost own: { made_event made.value ≡ AdmittedEvent serial peer },
 }
 
-/// A connection whose program was started, with what it runs by (`child`): the program is the plan's, with the
-/// variables of the decision by what this very connection found, for its client and its end. It found that by a new
-/// handle of the rules, which was opened for it. It goes on as an `Alive`.
-pub(crate) struct Started<'a, H: Host> {
-    alive: Alive<'a, H>,
-    peer: Snapshot<Peer>,
-    found: FoundBy<H>,
-    ghost child: { IsOwnChild (kept_opening H.File.bytes found)
-        (IsFoundFor H.Places.met (H.Rules.gives alive.server.now.context.rules.now) H.Handle.opened alive.serial)
-        H.File.honest H.File.sound peer.value alive.local alive.server.now.context.plan.now
-        (H.Job.program (job_of alive.running)) (H.Job.environment (job_of alive.running)) },
-}
-
-/// A connection whose program runs: the right to its end. One thread may give it to another.
+/// A connection whose program runs: the right to its end. One thread may give it to another. The program is the plan's,
+/// with the variables of the decision by what this very connection found, for its client and its end (`child`). It found
+/// that by a new handle of the rules, which was opened for it.
 pub(crate) struct Alive<'a, H: Host> {
     pub(crate) server: &'a Server<'a, H>,
     pub(crate) serial: u64,
@@ -55,6 +44,12 @@ pub(crate) struct Alive<'a, H: Host> {
     pub(crate) local: Local,
     // what its program says, if that is passed on; otherwise the program holds the connection itself
     pub(crate) downward: Option<Downward<H::Holder, H::Output>>,
+    peer: Snapshot<Peer>,
+    found: FoundBy<H>,
+    ghost child: { IsOwnChild (kept_opening H.File.bytes found)
+        (IsFoundFor H.Places.met (H.Rules.gives server.now.context.rules.now) H.Handle.opened serial)
+        H.File.honest H.File.sound peer.value local server.now.context.plan.now
+        (H.Job.program (job_of running)) (H.Job.environment (job_of running)) },
 }
 
 /// What the client of a connection sends, if that is passed on; and the connection.
@@ -63,49 +58,7 @@ pub(crate) type Beginning<'a, H> = (
     Alive<'a, H>,
 );
 
-/// A program that was started for a connection, with what the connection found.
-type Ran<H> = (Running<<H as Ground>::Places, <H as Host>::Job>, FoundBy<H>);
-
 impl<H: Host> Server<'_, H> {
-    // Serves a connection up to the start of its program.
-    fn serve(
-        &self,
-        serial: u64,
-        place: Place<H::Places>,
-        peer: &Peer,
-        local: &Local,
-        streams: &mut ClientStreams<H::Holder>,
-    ) -> Result<Ran<H>, Over>
-        ensures own { IfOk result (λ ran. place_of ran.0 ≡ place) }
-        ensures child { IfOk result (λ ran. IsOwnChild (kept_opening H.File.bytes ran.1)
-            (IsFoundFor H.Places.met (H.Rules.gives self.now.context.rules.now) H.Handle.opened serial)
-            H.File.honest H.File.sound peer.now local.now self.now.context.plan.now
-            (H.Job.program (job_of ran.0)) (H.Job.environment (job_of ran.0))) }
-        ensures over { IfErr result (λ over. over.serial ≡ serial) }
-        ensures reason { IfErr result (λ over. EndsWithReason
-            (IsFoundFor H.Places.met (H.Rules.gives self.now.context.rules.now) H.Handle.opened serial)
-            H.File.honest H.File.sound peer.now local.now self.now.context.plan.now
-            (H.Starter.refuses self.now.starter.now streams.old.shut) serial (asked over.last.value)) }
-    {
-        let mut agent = self.context.agent(serial, local);
-        let launcher = ConnectionLauncher {
-            starter: self.starter,
-            connection: &streams.shut,
-        };
-        let (alloc, plan) = (self.context.alloc, self.context.plan);
-        let writer = &mut streams.writer;
-        match serve_one(
-            alloc, &mut agent, place, serial, peer, local, plan, launcher, writer,
-        ) {
-            Served::Running(running) => Ok((running, agent.into_found())),
-            Served::Denied | Served::StartFailed(_) | Served::Dropped(_) => {
-                let over = Over::of(&agent, serial, false);
-                drop(agent);
-                Err(over)
-            }
-        }
-    }
-
     // Waits for a program in rounds, ends its connection, and only then tells how the program ended. So a slow log
     // keeps no client waiting.
     fn see_out(
@@ -162,7 +115,7 @@ impl<'a, H: Host> Admitted<'a, H> {
             return Err(self.give_up(DropCause::Memory));
         };
         match self.serve() {
-            Ok((started, streams)) => started.go_on().pass_on(streams, chains),
+            Ok((alive, streams)) => alive.pass_on(streams, chains),
             Err(over) => Err(over),
         }
     }
@@ -192,13 +145,13 @@ impl<'a, H: Host> Admitted<'a, H> {
     }
 
     // It is served up to the start of its program, by `serve_one`.
-    fn serve(self) -> Result<(Started<'a, H>, ClientStreams<H::Holder>), Over>
-        ensures own { IfOk result (λ started. (started.0.alive.serial ≡ self.entry.serial)
-            × (place_of started.0.alive.running ≡ self.entry.place)) }
-        ensures child { IfOk result (λ started. IsDecidedChild
+    fn serve(self) -> Result<(Alive<'a, H>, ClientStreams<H::Holder>), Over>
+        ensures own { IfOk result (λ begun. (begun.0.serial ≡ self.entry.serial)
+            × (place_of begun.0.running ≡ self.entry.place)) }
+        ensures child { IfOk result (λ begun. IsDecidedChild
             (IsFoundFor H.Places.met (H.Rules.gives self.entry.server.now.context.rules.now) H.Handle.opened self.entry.serial)
             H.File.honest H.File.sound self.entry.peer self.entry.local self.entry.server.now.context.plan.now
-            (H.Job.program (job_of started.0.alive.running)) (H.Job.environment (job_of started.0.alive.running))) }
+            (H.Job.program (job_of begun.0.running)) (H.Job.environment (job_of begun.0.running))) }
         ensures over { IfErr result (λ over. over.serial ≡ self.entry.serial) }
         ensures reason { IfErr result (λ over. EndsWithReason
             (IsFoundFor H.Places.met (H.Rules.gives self.entry.server.now.context.rules.now) H.Handle.opened self.entry.serial)
@@ -215,41 +168,40 @@ impl<'a, H: Host> Admitted<'a, H> {
             mut streams,
             made: _,
         } = self;
-        match server.serve(serial, place, &peer, &local, &mut streams) {
-            Ok((running, found)) => {
+        let mut agent = server.context.agent(serial, &local);
+        let launcher = ConnectionLauncher {
+            starter: server.starter,
+            connection: &streams.shut,
+        };
+        let (alloc, plan) = (server.context.alloc, server.context.plan);
+        let writer = &mut streams.writer;
+        match serve_one(
+            alloc, &mut agent, place, serial, &peer, &local, plan, launcher, writer,
+        ) {
+            Served::Running(running) => {
+                let found = agent.into_found();
+                let kept = Snapshot::of(&peer);
+                drop(peer);
                 let alive = Alive {
                     server,
                     serial,
                     running,
                     local,
                     downward: None,
+                    peer: kept,
+                    found,
                 };
-                let kept = Snapshot::of(&peer);
-                drop(peer);
-                let peer = kept;
-                Ok((Started { alive, peer, found }, streams))
+                Ok((alive, streams))
             }
-            Err(over) => {
+            Served::Denied | Served::StartFailed(_) | Served::Dropped(_) => {
+                let over = Over::of(&agent, serial, false);
+                drop(agent);
                 streams.end();
                 drop(local);
                 drop(peer);
                 Err(over)
             }
         }
-    }
-}
-
-impl<'a, H: Host> Started<'a, H> {
-    /// It goes on, in this thread or another one.
-    pub(crate) fn go_on(self) -> Alive<'a, H>
-        ensures same { result ≡ self.entry.alive }
-    {
-        let Started {
-            alive,
-            peer: _,
-            found: _,
-        } = self;
-        alive
     }
 }
 
@@ -279,6 +231,8 @@ impl<'a, H: Host> Alive<'a, H> {
             mut running,
             local,
             downward: _,
+            peer,
+            found,
         } = self;
         let Ok((to, from)) = running.ends() else {
             let _ = server
@@ -299,6 +253,8 @@ impl<'a, H: Host> Alive<'a, H> {
             running,
             local,
             downward: Some(downward),
+            peer,
+            found,
         };
         Ok((Some(upward), alive))
     }
@@ -316,6 +272,8 @@ impl<'a, H: Host> Alive<'a, H> {
             running,
             local,
             downward,
+            peer: _,
+            found: _,
         } = self;
         let shut = match downward {
             Some(downward) => Some(server.pass_down(downward)),

@@ -1,5 +1,5 @@
 //! The server: it lets connections in, each served by threads that are kept, until it comes to an end.
-ghost use Rattle.std.specs.Prelude.{◌≡◌, ◌≢◌, ◌+◌, ◌≤◌, [], true, IfOk, IfErr, IsTrue, is_some, length, vec_capacity, vec_len};
+ghost use Rattle.std.specs.Prelude.{◌≡◌, ◌↔◌, ◌+◌, ◌≤◌, [], true, false, IsTrue, is_some, length, vec_capacity, vec_len};
 ghost use Rattle.server_yard.specs.Yards.{HasRun, yard_books, yard_server};
 ghost use Rattle.shared_site.specs.Callers.{caller_share, total_share};
 ghost use Rattle.tcp_connections.specs.Admissions.{FailedToAccept, IsServed, suffices};
@@ -20,12 +20,15 @@ use std::time::Clock;
 use tcp_connections::{Acceptor, Errors, ServeEnd, serve_through};
 
 /// A server that has come to its end: nobody is let in any more and its threads have ended, both callers of its site
-/// are back and the site is closed. Each connection that is alive still is a retired one. For want of places it ended
-/// only if its site has said that all are retired, and for want of numbers only if it has said that none is left.
+/// are back and the site is closed. Each connection that is alive still is a retired one, unless one was lost. For want
+/// of places it ended only if its site has said that all are retired, and for want of numbers only if it has said that
+/// none is left.
 #[derive(Drop)]
 pub struct Closed<H: Host> {
     /// How it ended.
     pub end: ServeEnd,
+    /// Whether a connection is alive still that is not retired, though no thread has it.
+    pub has_lost: bool,
     /// What its site was made of, with all that happened.
     pub yard: YardOf<H>,
     /// The errors of accepting that came last in succession.
@@ -38,23 +41,11 @@ pub struct Closed<H: Host> {
     // no event is of anybody else
     pub ghost all_back: { (yard_books yard).count
         ≡ H.Callers.before + (caller_share admitter.value + caller_share teller.value) },
-    pub ghost all_retired: { (yard_books yard).report.retired ≡ length (yard_server yard).connections },
+    pub ghost all_retired: { (has_lost ≡ false)
+        ↔ ((yard_books yard).report.retired ≡ length (yard_server yard).connections) },
     pub ghost by_places: { end ≡ NoPlaces → IsTrue (is_some seen.retired) },
     pub ghost by_numbers: { end ≡ Spent → IsTrue (is_some seen.spent) },
     // its events are a run of a server
-    pub ghost ran: { H.is_servers ≡ true → H.Callers.before ≡ 0 → HasRun yard },
-}
-
-/// A server that has come to its end, but a connection is alive still that is not retired, though no thread has it.
-#[derive(Drop)]
-pub struct Unfinished<H: Host> {
-    /// How it ended.
-    pub end: ServeEnd,
-    /// What its site was made of, with all that happened.
-    pub yard: YardOf<H>,
-    // the caller that let connections in
-    admitter: Snapshot<CallerOf<H>>,
-    pub ghost lost: { (yard_books yard).report.retired ≢ length (yard_server yard).connections },
     pub ghost ran: { H.is_servers ≡ true → H.Callers.before ≡ 0 → HasRun yard },
 }
 
@@ -65,9 +56,6 @@ pub struct Unfinished<H: Host> {
 /// says as their standard input and output. Each connection opens `rules` for itself. Once no more connections are let
 /// in, the acceptor is dropped. By faults of accepting the server ends only if the last hundred answers of the acceptor
 /// were errors, or if there was too little for one connection.
-///
-/// # Errors
-/// A place is lost: its connection is alive, and no thread has it. The site is closed all the same.
 pub fn serve<'a, H, A>(
     rt: &'a H::Runtime,
     alloc: Global,
@@ -79,7 +67,7 @@ pub fn serve<'a, H, A>(
     plan: &'a Plan,
     service: &'a Service<'a>,
     log: &'a Mutex<Log<H::Lines>>,
-) -> Result<Closed<H>, Unfinished<H>>
+) -> Closed<H>
 where
     H: Host + Send + Sync,
     H::Runtime: Threads + Clock + Sync,
@@ -98,12 +86,8 @@ where
     A: Acceptor<Holder = H::Holder> + Send + Sync + Drop,
     requires callers { (H.Callers.all ≡ 2) × (H.Callers.parts ≡ 2)
         × (vec_len callers ≡ 2) × (total_share callers.items ≡ 0) }
-    ensures count { IfOk result (λ closed.
-        IsServed closed.end service.now.limits.count 0 (caller_share closed.admitter.value)) }
-    ensures faults { IfOk result (λ closed. closed.end ≡ AcceptFaults
-        → FailedToAccept (suffices service.now.supply) closed.errors.count) }
-    ensures then_too { IfErr result (λ unfinished.
-        IsServed unfinished.end service.now.limits.count 0 (caller_share unfinished.admitter.value)) }
+    ensures count { IsServed result.end service.now.limits.count 0 (caller_share result.admitter.value) }
+    ensures faults { result.end ≡ AcceptFaults → FailedToAccept (suffices service.now.supply) result.errors.count }
 {
     let live = site.live(rt);
     let _ = log.lock(rt).status(live);
@@ -173,14 +157,14 @@ fn close<H: Host>(
     callers: Vec<CallerOf<H>>,
     admitter: CallerOf<H>,
     teller: CallerOf<H>,
-) -> Result<Closed<H>, Unfinished<H>>
+) -> Closed<H>
     requires places { end ≡ NoPlaces → IsTrue (is_some seen.retired) }
     requires spent { end ≡ Spent → IsTrue (is_some seen.spent) }
     requires all { (H.Callers.all ≡ 2) × (H.Callers.parts ≡ 2) }
     requires room { (callers.items ≡ []) × (2 ≤ vec_capacity callers) }
-    ensures end { IfOk result (λ closed. (closed.end ≡ end) × (closed.admitter.value ≡ admitter)) }
-    ensures errors { IfOk result (λ closed. closed.errors ≡ errors) }
-    ensures lost { IfErr result (λ unfinished. (unfinished.end ≡ end) × (unfinished.admitter.value ≡ admitter)) }
+    ensures end { result.end ≡ end }
+    ensures admitter { result.admitter.value ≡ admitter }
+    ensures errors { result.errors ≡ errors }
 {
     let mut callers = callers;
     let (admitter_then, teller_then) = (Snapshot::of(&admitter), Snapshot::of(&teller));
@@ -189,20 +173,14 @@ fn close<H: Host>(
     let Ok(yard) = site.close(callers) else {
         unreachable!()
     };
-    if yard.journal().report().retired == yard.live() {
-        Ok(Closed {
-            end,
-            yard,
-            errors,
-            seen,
-            admitter: admitter_then,
-            teller: teller_then,
-        })
-    } else {
-        Err(Unfinished {
-            end,
-            yard,
-            admitter: admitter_then,
-        })
+    let has_lost = yard.journal().report().retired != yard.live();
+    Closed {
+        end,
+        has_lost,
+        yard,
+        errors,
+        seen,
+        admitter: admitter_then,
+        teller: teller_then,
     }
 }

@@ -40,14 +40,6 @@ impl LineWrapper for Wrapper {
             Wrapper::FixCr(inner) => inner.finish(out),
         }
     }
-
-    fn renew(&mut self) {
-        match self {
-            Wrapper::AddCr(inner) => inner.renew(),
-            Wrapper::DelCr(inner) => inner.renew(),
-            Wrapper::FixCr(inner) => inner.renew(),
-        }
-    }
 }
 
 impl Wrapper {

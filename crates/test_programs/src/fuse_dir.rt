@@ -231,25 +231,3 @@ impl<D: Dir> Dir for FuseDir<D> {
         }
     }
 }
-
-#[tactic(auto, using(crate::proofs::FuseLemmas::burnt_counts, crate::proofs::FuseLemmas::burnt_more, crate::proofs::FuseLemmas::passed_counts))]
-impl<D: ClearableDir> ClearableDir for FuseDir<D> {
-    ghost use Rattle.test_programs.specs.FuseParts.{FuseBurns, FusePasses, fuse_failed, fuse_inner, fuse_left, fuse_state};
-
-    fn take_away(&mut self, alloc: Global, name: &Name) -> Result<(), DirFault>
-        ensures gone { IsTrue D.honest → OnOk result (number_of (fuse_state self.new) name.now ≡ None) }
-        ensures others { IsTrue D.honest → SparesOthers name.now (fuse_state self.old) (fuse_state self.new) }
-        ensures stays { IsTrue D.honest → (other : List ℕ) → name.now ≢ other → KeepsWhatLasts
-            ⟦<FuseDir<D> as Dir>⟧ other self.old self.new }
-        ensures faults { IfErr result (Contains (DirFault.Device ∷ DirFault.OutOfMemory ∷ [])) }
-        ensures counted { CountsFault (fuse_failed self.old) (fuse_failed self.new) result }
-        ensures counts { fuse_left self.new ≡ fuse_left self.old - 1 }
-        ensures burns { FuseBurns self.old self.new result }
-        ensures passes { FusePasses self.old self.new result }
-    {
-        if burns(&mut self.left, &mut self.burnt) {
-            return Err(DirFault::Device);
-        }
-        self.inner.take_away(alloc, name)
-    }
-}

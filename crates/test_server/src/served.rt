@@ -199,16 +199,11 @@ where
         }),
         addresses: asked.addresses,
     };
-    let served = serve::<InMemory<'a, 'w, R, L, N>, Clients<'a, R>>(
+    let closed = serve::<InMemory<'a, 'w, R, L, N>, Clients<'a, R>>(
         rt, alloc, acceptor, site, callers, &NoRules, launcher, plan, service, log,
     );
-    match served {
-        Ok(closed) => add_end(&closed.end, &closed.yard, "", launcher.tally, out),
-        Err(unfinished) => {
-            let rest = ", unfinished";
-            add_end(&unfinished.end, &unfinished.yard, rest, launcher.tally, out);
-        }
-    }
+    let rest = if closed.has_lost { ", unfinished" } else { "" };
+    add_end(&closed.end, &closed.yard, rest, launcher.tally, out);
 }
 
 /// Adds how a server ended that left this yard, with the rest of that line, and its history.

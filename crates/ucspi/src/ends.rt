@@ -1,11 +1,10 @@
 //! How the tool ends, by how its server did.
-ghost use Rattle.std.specs.Prelude.{◌≡◌, true, Ok, Err, None, IfOk, IfErr, OnErr, OnOk};
-ghost use Rattle.server_parts.specs.declared.fault.ServerFault.TheVariants.{LostConnection};
+ghost use Rattle.std.specs.Prelude.{◌≡◌, true, Ok, Err, IfErr, OnOk};
 ghost use Rattle.ucspi.specs.Ends.{told_of};
 ghost use Rattle.server_yard.specs.Yards.{HasRun};
 
 use server_parts::{ServerFailure, ServerFault};
-use tcp_service::{Closed, Host, ServeEnd, Unfinished};
+use tcp_service::{Closed, Host, ServeEnd};
 
 /// A server has served as many connections as its words say, or all for which there are numbers, and is closed. Only
 /// what such a server gave makes one.
@@ -13,39 +12,28 @@ use tcp_service::{Closed, Host, ServeEnd, Unfinished};
 pub struct Finished(());
 
 // How the tool ends, by how its server did and the system's last error of accepting. The events of its site were a run.
-pub(crate) fn end_of<H: Host>(
-    served: Result<Closed<H>, Unfinished<H>>,
-) -> Result<Finished, ServerFailure>
+pub(crate) fn end_of<H: Host>(served: Closed<H>) -> Result<Finished, ServerFailure>
     requires servers { H.is_servers ≡ true }
     requires new { H.Callers.before ≡ 0 }
-    ensures ran { IfOk served (λ closed. HasRun closed.yard) }
-    ensures ran_too { IfErr served (λ unfinished. HasRun unfinished.yard) }
-    ensures finished { OnOk result (IfOk served (λ closed.
-        told_of closed.end closed.errors.last ≡ Ok tt)) }
-    ensures closed { IfErr result (λ failure. IfOk served (λ closed.
-        told_of closed.end closed.errors.last ≡ Err failure)) }
-    ensures lost { OnErr served (result ≡ Err (record { fault = LostConnection; error = None })) }
+    ensures ran { HasRun served.yard }
+    ensures finished { OnOk result (told_of served.has_lost served.end served.errors.last ≡ Ok tt) }
+    ensures closed { IfErr result (λ failure. told_of served.has_lost served.end served.errors.last ≡ Err failure) }
 {
-    match served {
-        Ok(closed) => {
-            let (end, error) = (closed.end, closed.errors.last);
-            drop(closed);
-            match failure_of(end, error) {
-                Ok(()) => Ok(Finished(())),
-                Err(failure) => Err(failure),
-            }
-        }
-        Err(unfinished) => {
-            drop(unfinished);
-            Err(ServerFailure::from(ServerFault::LostConnection))
-        }
+    let (has_lost, end, error) = (served.has_lost, served.end, served.errors.last);
+    drop(served);
+    match failure_of(has_lost, end, error) {
+        Ok(()) => Ok(Finished(())),
+        Err(failure) => Err(failure),
     }
 }
 
 // Why the tool fails, by how its server ended and this error.
-fn failure_of(end: ServeEnd, error: Option<i32>) -> Result<(), ServerFailure>
-    ensures { result ≡ told_of end error }
+fn failure_of(has_lost: bool, end: ServeEnd, error: Option<i32>) -> Result<(), ServerFailure>
+    ensures { result ≡ told_of has_lost end error }
 {
+    if has_lost {
+        return Err(ServerFailure::from(ServerFault::LostConnection));
+    }
     match end {
         ServeEnd::Count | ServeEnd::Spent => Ok(()),
         ServeEnd::NoPlaces => Err(ServerFailure::from(ServerFault::NoPlaces)),

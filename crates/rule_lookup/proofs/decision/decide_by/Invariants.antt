@@ -9,6 +9,6 @@ use Rattle.rule_lookup.proofs.decision.decide_by.Given as goal
 abbrev pub invariant-loop-form : goal.invariant-loop-form
 invariant-loop-form g l = record {
   all : map string_bytes l.form-items ≡ forms_of l.peer;
-  first : WhereKnown (g.S.PairSource.trust l.source) (find (λ form. is_there (g.S.PairSource.finds l.source form)) (drop l.form-index (forms_of l.peer)) ≡ find (λ form. is_there (g.S.PairSource.finds l.source form)) (forms_of l.peer));
-  asked : WhereKnown (g.S.PairSource.trust l.source) (Any (g.S.PairSource.may_fail l.source) (asked (g.S.PairSource.finds l.source) (drop l.form-index (forms_of l.peer))) → Any (g.S.PairSource.may_fail l.source) (asked (g.S.PairSource.finds l.source) (forms_of l.peer)));
+  first : WhereKnown (g.S.RuleSource.trust l.source) (find (λ form. is_there (g.S.RuleSource.finds l.source form)) (drop l.form-index (forms_of l.peer)) ≡ find (λ form. is_there (g.S.RuleSource.finds l.source form)) (forms_of l.peer));
+  asked : WhereKnown (g.S.RuleSource.trust l.source) (Any (g.S.RuleSource.may_fail l.source) (asked (g.S.RuleSource.finds l.source) (drop l.form-index (forms_of l.peer))) → Any (g.S.RuleSource.may_fail l.source) (asked (g.S.RuleSource.finds l.source) (forms_of l.peer)));
 }
