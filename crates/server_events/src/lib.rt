@@ -22,5 +22,5 @@ pub mod state;
 pub use event::{Event, Stage};
 pub use journal::{Journal, Noted};
 pub use report::{ReplayFault, Report, replay};
-pub use same::{is_same_event, is_same_peer};
+pub use same::is_same_peer;
 pub use state::{Connection, State};

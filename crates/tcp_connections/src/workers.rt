@@ -32,11 +32,6 @@ const MORE: usize = 8 * 1024;
 /// What a thread takes of address space, in bytes: its stack, and what guards it.
 const THREAD: usize = 192 * 1024;
 
-/// What came of a connection that was accepted, up to the start of its program; `None` if it was not let in.
-type Begun<V, T> = Option<
-    Result<(Option<<V as Serving<T>>::Upward>, <V as Serving<T>>::Alive), <V as Serving<T>>::Over>,
->;
-
 /// Lets connections of `acceptor` in until `count` were let in or no more can be. Then it drops the acceptor, waits
 /// until all that were let in are over, and gives `admission` back with the errors of accepting that came last. At most
 /// `most` connections are alive at once. Each worker accepts one, lets it in, and serves it until its program runs. It
@@ -162,12 +157,6 @@ where
     // Waits for the next connection. `None` once no more come.
     fn accept(&self) -> Option<Result<Q::Came, AcceptError>> {
         Some(self.acceptor.read(self.rt).as_ref()?.accept())
-    }
-
-    // Lets a connection in that came, and serves it up to the start of its program. `None` if it was refused, or nobody
-    // is let in any more.
-    fn begin(&self, permit: &Permit, came: Q::Came) -> Begun<V, Q::Work> {
-        Some(self.server.begin(self.admit(permit, came)?))
     }
 
     // Lets a connection in that came, if its worker has what it takes. `None` if it was refused, or nobody is let in any
@@ -456,15 +445,15 @@ where
         came: Q::Came,
         second: &mut Option<Second<V::Upward>>,
     ) {
-        match self.begin(&permit, came) {
-            None => {
-                self.means.give_back(self.rt, permit);
-                return;
-            }
-            Some(Err(over)) => self
+        let Some(work) = self.admit(&permit, came) else {
+            self.means.give_back(self.rt, permit);
+            return;
+        };
+        match self.server.begin(work) {
+            Err(over) => self
                 .means
                 .ended(self.rt, permit, self.server.is_retired(&over)),
-            Some(Ok((upward, alive))) => {
+            Ok((upward, alive)) => {
                 let his = second.take();
                 if let (Some(upward), Some(his)) = (upward, &his) {
                     his.give(self.rt, upward);

@@ -2,7 +2,8 @@
 ghost use Rattle.std.specs.Prelude.{◌↔◌, ◌<◌, IsTrue, IfErr, OnOk, length};
 ghost use Rattle.whole_yard.specs.Audits.{AreRight, AreRightBefore, IsAbove, IsFirstWrong, IsRight, Rise, StandsAtItsPosition};
 
-use server_events::{Noted, is_same_event};
+use crate::same::is_same_event;
+use server_events::Noted;
 use shared_site::Receipt;
 
 /// The position in the list of the first receipt that is wrong, counted from 0.

@@ -11,6 +11,7 @@ pub mod closing;
 pub mod install_turns;
 pub mod laws;
 pub mod open_turn;
+mod same;
 pub mod yard_agent;
 pub mod yard_serving;
 
