@@ -10,10 +10,12 @@
 
 pub mod accepting;
 pub mod admission;
+mod arrivals;
 pub mod door;
 mod going_on;
 mod handover;
 mod means;
+mod memory_look;
 pub mod names;
 pub mod rounds;
 pub mod starting;

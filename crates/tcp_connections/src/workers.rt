@@ -4,17 +4,18 @@ ghost use Rattle.std.specs.Thread.{IsSend, IsSync};
 ghost use Rattle.tcp_connections.specs.Admissions.{FailedToAccept, IsServed, suffices};
 ghost use Rattle.tcp_connections.specs.declared.admission.ServeEnd.TheVariants.{AcceptFaults, NoPlaces, Spent};
 
-use crate::accepting::{AcceptError, Accepted, Acceptor};
+use crate::accepting::{Accepted, Acceptor};
 use crate::admission::{Admission, ServeEnd, Serving};
+use crate::arrivals::Arrivals;
 use crate::door::{Door, Errors, Pause};
 use crate::going_on::GoingOn;
 use crate::handover::Handover;
 use crate::means::{Means, Permit, Want};
+use crate::memory_look::MemoryLook;
 use crate::supply::{Reserve, Supply};
 use crate::threads::{Second, connection_thread, has_processes, start_waiting};
 use std::alloc::Global;
-use std::sync::atomic::{AtomicUsize, Ordering};
-use std::sync::{Arc, Mutex, RwLock, Wait};
+use std::sync::{Arc, Wait};
 use std::thread;
 use std::thread::{Scope, Threads};
 use std::time::Clock;
@@ -25,12 +26,6 @@ const TRIES: u32 = 8;
 /// For at most this many programs, the server looks whether there are processes before it makes a worker. If there are
 /// too few, the last programs wait for those before them.
 const PROCESSES: u64 = 4;
-
-/// By how many bytes a look for memory asks for more than the last one: two pages.
-const MORE: usize = 8 * 1024;
-
-/// What a thread takes of address space, in bytes: its stack, and what guards it.
-const THREAD: usize = 192 * 1024;
 
 /// Lets connections of `acceptor` in until `count` were let in or no more can be. Then it drops the acceptor, waits
 /// until all that were let in are over, and gives `admission` back with the errors of accepting that came last. At most
@@ -72,19 +67,16 @@ where
         rt,
         alloc,
         server,
-        acceptor: RwLock::new(Some(acceptor)),
-        door: Mutex::new(Door::new(admission, count)),
-        scarce: Mutex::new(()),
+        arrivals: Arrivals::new(acceptor, Door::new(admission, count), &means),
+        memory: MemoryLook::new(alloc, supply),
+        has_reserve: supply.has_reserve(),
         came_up: Handover::new(),
-        supply,
         means: &means,
-        found: AtomicUsize::new(0),
         reserve,
     };
     workers.run();
-    let Workers { acceptor, door, .. } = workers;
-    drop(acceptor);
-    door.into_inner().into_end(count)
+    let Workers { arrivals, .. } = workers;
+    arrivals.into_end(count)
 }
 
 /// What the workers share.
@@ -93,180 +85,36 @@ struct Workers<'a, R, V, A, Q: Admission> {
     rt: &'a R,
     alloc: Global,
     server: &'a V,
-    // none once nobody is let in any more
-    acceptor: RwLock<Option<A>>,
-    door: Mutex<Door<Q>>,
-    // whoever has it waits until there may be descriptors or memory for a connection again
-    scarce: Mutex<()>,
+    arrivals: Arrivals<'a, A, Q>,
+    memory: MemoryLook,
+    // whether there is memory for a process in reserve
+    has_reserve: bool,
     // whether the worker that was made stays
     came_up: Handover<bool>,
-    supply: Supply,
     means: &'a Means,
-    // how many bytes the last look for memory found, if memory is limited
-    found: AtomicUsize,
     reserve: &'a Reserve,
 }
 
-impl<'a, R, V, A, Q> Workers<'a, R, V, A, Q>
-where
-    R: Threads + Wait + Clock + Sync,
-    V: Serving<Q::Work>,
-    A: Acceptor + Drop,
-    Q: Admission<Came = Option<Accepted<A::Holder>>>,
-{
-    // Whether memory is limited.
-    fn is_limited(&self) -> bool {
-        self.supply.memory.is_some()
-    }
-
-    // Whether memory is not limited, and processes were never scarce: then a connection may have a thread of its own.
-    fn has_plenty(&self) -> bool {
-        !self.is_limited() && !self.reserve.is_gone(self.rt)
-    }
-
-    // Ends the server, since there is no memory for it or no thread that serves anybody.
-    fn give_up(&self) {
-        self.door.lock(self.rt).give_up();
-        self.end();
-    }
-
-    // Nobody is let in any more: all workers end that wait for a connection, and the acceptor is dropped.
-    fn end(&self) {
-        self.means.end(self.rt);
-        if let Some(acceptor) = &*self.acceptor.read(self.rt) {
-            acceptor.wake();
-        }
-        let acceptor = self.acceptor.write(self.rt).take();
-        drop(acceptor);
-    }
-
-    // Ends the server if it has come to its end.
-    fn end_if_over(&self) {
-        let is_over = self.door.lock(self.rt).is_over();
-        if is_over {
-            self.end();
-        }
-    }
-
-    // Ends the server, since all places are retired.
-    fn end_without_places(&self) {
-        self.door.lock(self.rt).look_for_places();
-        self.end();
-    }
-
-    // Waits for the next connection. `None` once no more come.
-    fn accept(&self) -> Option<Result<Q::Came, AcceptError>> {
-        Some(self.acceptor.read(self.rt).as_ref()?.accept())
-    }
-
-    // Lets a connection in that came, if its worker has what it takes. `None` if it was refused, or nobody is let in any
-    // more.
-    fn admit(&self, _permit: &Permit, came: Q::Came) -> Option<Q::Work> {
-        let mut door = self.door.lock(self.rt);
-        if door.is_over() {
-            drop(door);
-            drop(came);
-            return None;
-        }
-        let work = door.admit(came);
-        let is_over = door.is_over();
-        drop(door);
-        if work.is_some() {
-            self.means.came(self.rt);
-        }
-        if is_over {
-            self.end();
-        }
-        work
-    }
-
-    // Counts an error of accepting. After one for want of descriptors or memory it waits first. If a connection was
-    // served then, the error is none of the hundred. Once the server has come to its end, the error is that of its end.
-    fn pause(&self, error: AcceptError) {
-        let mut door = self.door.lock(self.rt);
-        let was_over = door.is_over();
-        if !was_over {
-            door.note(error);
-        }
-        drop(door);
-        if was_over {
+// Passes on what each client sends, one after another, until no more come.
+fn pass_up_in_turn<R: Wait, V: Serving<T>, T>(
+    rt: &R,
+    server: &V,
+    memory: &MemoryLook,
+    sent: &Handover<V::Upward>,
+) {
+    memory.begin_thread();
+    for _ in rt.forever() {
+        sent.finish(rt);
+        let Some(upward) = sent.take(rt) else {
             return;
-        }
-        if error.lacks_room && self.wait_while_scarce() {
-            return;
-        }
-        self.door.lock(self.rt).count_fault();
-        self.end_if_over();
-    }
-
-    // Waits for a pause, or until there may be descriptors and memory again. Whether a connection was served. Workers
-    // wait one after another, so that all together try no more often than one would.
-    fn wait_while_scarce(&self) -> bool {
-        let turn = self.scarce.lock(self.rt);
-        let pause = self.door.lock(self.rt).next_pause();
-        let was_any_served = self.means.wait_for_change(self.rt, pause);
-        if !was_any_served {
-            thread::sleep(self.rt, pause);
-        }
-        drop(turn);
-        was_any_served
-    }
-
-    // Passes on what each client sends, one after another, until no more come.
-    fn pass_up_in_turn(&self, sent: &Handover<V::Upward>) {
-        self.come_up();
-        for _ in self.rt.forever() {
-            sent.finish(self.rt);
-            let Some(upward) = sent.take(self.rt) else {
-                return;
-            };
-            self.server.pass_up(upward);
-        }
-    }
-
-    // Whether there is what the connections of all workers take beside descriptors: memory if it is limited, and
-    // processes if there were too few before.
-    fn has_supplies(&self, workers: usize, beginning: u64) -> bool {
-        (!self.supply.has_reserve() || self.has_memory(workers, 0))
-            && (!self.reserve.is_gone(self.rt)
-                || has_processes(self.rt, beginning.clamp(1, PROCESSES)))
-    }
-
-    // Whether there is memory for the threads of one more worker too, if it is low. The C library keeps what threads
-    // took that are over, and a program would lack it.
-    fn has_stacks(&self, workers: usize) -> bool {
-        let threads = if self.server.passes_up() { 2 } else { 1 };
-        self.supply.has_reserve() || self.has_memory(workers, threads * THREAD)
-    }
-
-    // Whether there is memory for the connections of this many workers and for this many bytes more, if it is limited.
-    // Each look asks for more than the last one that succeeded. The C library would serve a smaller request from what
-    // it keeps for this thread alone.
-    fn has_memory(&self, workers: usize, beside: usize) -> bool {
-        let Some(memory) = self.supply.memory else {
-            return true;
         };
-        let more = self.found.load(Ordering::SeqCst).saturating_add(MORE);
-        let all = memory
-            .to_go_on
-            .saturating_mul(workers)
-            .saturating_add(memory.to_begin)
-            .saturating_add(beside)
-            .max(more);
-        let is_there = Vec::<u8>::with_capacity(self.alloc, all).is_ok();
-        if is_there {
-            self.found.store(all, Ordering::SeqCst);
-        }
-        is_there
+        server.pass_up(upward);
     }
+}
 
-    // A new thread begins. If memory is limited it asks for some, so that the C library reserves now what it reserves
-    // for a thread.
-    fn come_up(&self) {
-        if self.is_limited() {
-            drop(Vec::<u8>::with_capacity(self.alloc, 64));
-        }
-    }
+// Whether there are processes for so many programs that begin, if there were too few before.
+fn has_programs<R: Threads + Wait + Sync>(rt: &R, reserve: &Reserve, beginning: u64) -> bool {
+    !reserve.is_gone(rt) || has_processes(rt, beginning.clamp(1, PROCESSES))
 }
 
 impl<'a, R, V, A, Q> Workers<'a, R, V, A, Q>
@@ -286,12 +134,10 @@ where
                 requires { IsSync R.row × IsSync V.row × IsSend Q.row × IsSend V.Upward.row × IsSend V.Alive.row
                     × IsSend A.row × IsSync A.row }
             {
-                if !workers.supply.has_reserve()
-                    || !start_waiting(scope, workers.rt, &workers.reserve.end)
-                {
+                if !workers.has_reserve || !start_waiting(scope, workers.rt, &workers.reserve.end) {
                     workers.reserve.give_back(workers.rt);
                 }
-                workers.end_if_over();
+                workers.arrivals.end_if_over(workers.rt);
                 workers.make_workers(scope);
                 workers.reserve.give_back(workers.rt);
             },
@@ -306,7 +152,7 @@ where
             match self.means.wait_for_want(self.rt) {
                 Want::Worker => {}
                 Want::NoPlaces => {
-                    self.end_without_places();
+                    self.arrivals.end_without_places(self.rt);
                     return;
                 }
                 Want::End => return,
@@ -318,7 +164,7 @@ where
             }
             left = left.saturating_sub(1);
             if left == 0 && !is_made {
-                self.give_up();
+                self.arrivals.give_up(self.rt);
                 return;
             }
             self.means.pause(self.rt, pause.next());
@@ -331,7 +177,10 @@ where
         let workers = usize::try_from(self.means.workers(self.rt)).unwrap_or(usize::MAX);
         let workers = workers.saturating_add(1);
         let mut stays = false;
-        if self.has_stacks(workers) && self.start_worker(scope, workers, beginning) {
+        let threads = if self.server.passes_up() { 2 } else { 1 };
+        if self.memory.has_stacks(workers, threads)
+            && self.start_worker(scope, workers, beginning)
+        {
             self.came_up.finish(self.rt);
             stays = self.came_up.take(self.rt) == Some(true);
         }
@@ -361,9 +210,12 @@ where
     // A new worker reports whether it stays: whether it has a second thread if it needs one, and there is what the
     // connections of so many workers take beside those that begin. If it stays, it works.
     fn come_to_work<'s, 'e>(&'s self, scope: &'s Scope<'s, &'e ()>, number: usize, beginning: u64) {
-        self.come_up();
+        self.memory.begin_thread();
         let mut second = None;
-        if self.provide_second(scope, &mut second) && self.has_supplies(number, beginning) {
+        if self.provide_second(scope, &mut second)
+            && self.memory.has_connections(number)
+            && has_programs(self.rt, self.reserve, beginning)
+        {
             self.means.add(self.rt);
             self.came_up.give(self.rt, true);
             self.work(scope, &mut second);
@@ -398,10 +250,10 @@ where
             move ||
                 requires { IsSync R.row × IsSync V.row × IsSend Q.row × IsSend V.Upward.row × IsSend V.Alive.row
                     × IsSend A.row × IsSync A.row }
-            { workers.pass_up_in_turn(&his) },
+            { pass_up_in_turn(workers.rt, workers.server, &workers.memory, &his) },
         );
         started.ok()?;
-        if self.is_limited() {
+        if self.memory.is_limited() {
             sent.wait(self.rt);
         }
         Some(sent)
@@ -425,11 +277,11 @@ where
                 continue;
             }
             pause = Pause::first();
-            match self.accept() {
+            match self.arrivals.accept(self.rt) {
                 Some(Ok(came)) => self.serve(scope, permit, came, second),
                 Some(Err(error)) => {
                     self.means.give_back(self.rt, permit);
-                    self.pause(error);
+                    self.arrivals.pause(self.rt, error);
                 }
                 None => self.means.give_back(self.rt, permit),
             }
@@ -445,7 +297,7 @@ where
         came: Q::Came,
         second: &mut Option<Second<V::Upward>>,
     ) {
-        let Some(work) = self.admit(&permit, came) else {
+        let Some(work) = self.arrivals.admit(self.rt, &permit, came) else {
             self.means.give_back(self.rt, permit);
             return;
         };
@@ -474,7 +326,9 @@ where
         second: Option<Second<V::Upward>>,
     ) -> Option<Second<V::Upward>> {
         let (permit, is_one_of_many) = self.means.began(self.rt, permit);
-        if is_one_of_many && self.has_plenty() {
+        // (a thread for it takes memory and a process, of which there is plenty)
+        let has_plenty = !self.memory.is_limited() && !self.reserve.is_gone(self.rt);
+        if is_one_of_many && has_plenty {
             let going_on = GoingOn {
                 rt: self.rt,
                 server: self.server,
