@@ -13,35 +13,33 @@ use std::time::Clock;
 
 /// Where workers wait for connections, and the door through which they let in who comes.
 #[derive(Drop)]
-pub(crate) struct Arrivals<'a, A, Q: Admission> {
+pub(crate) struct Arrivals<A, Q: Admission> {
     // none once nobody is let in any more
     acceptor: RwLock<Option<A>>,
     door: Mutex<Door<Q>>,
     // whoever has it waits until there may be descriptors or memory for a connection again
     scarce: Mutex<()>,
-    means: &'a Means,
 }
 
-impl<'a, A: Acceptor + Drop, Q: Admission> Arrivals<'a, A, Q> {
+impl<A: Acceptor + Drop, Q: Admission> Arrivals<A, Q> {
     /// Those of this acceptor. Nobody was let in yet.
-    pub fn new(acceptor: A, door: Door<Q>, means: &'a Means) -> Arrivals<'a, A, Q> {
+    pub fn new(acceptor: A, door: Door<Q>) -> Arrivals<A, Q> {
         Arrivals {
             acceptor: RwLock::new(Some(acceptor)),
             door: Mutex::new(door),
             scarce: Mutex::new(()),
-            means,
         }
     }
 
     /// Ends the server, since there is no memory for it or no thread that serves anybody.
-    pub fn give_up<R: Wait>(&self, rt: &R) {
+    pub fn give_up<R: Wait>(&self, rt: &R, means: &Means) {
         self.door.lock(rt).give_up();
-        self.end(rt);
+        self.end(rt, means);
     }
 
     // Nobody is let in any more: all workers end that wait for a connection, and the acceptor is dropped.
-    fn end<R: Wait>(&self, rt: &R) {
-        self.means.end(rt);
+    fn end<R: Wait>(&self, rt: &R, means: &Means) {
+        means.end(rt);
         if let Some(acceptor) = &*self.acceptor.read(rt) {
             acceptor.wake();
         }
@@ -50,17 +48,17 @@ impl<'a, A: Acceptor + Drop, Q: Admission> Arrivals<'a, A, Q> {
     }
 
     /// Ends the server if it has come to its end.
-    pub fn end_if_over<R: Wait>(&self, rt: &R) {
+    pub fn end_if_over<R: Wait>(&self, rt: &R, means: &Means) {
         let is_over = self.door.lock(rt).is_over();
         if is_over {
-            self.end(rt);
+            self.end(rt, means);
         }
     }
 
     /// Ends the server, since all places are retired.
-    pub fn end_without_places<R: Wait>(&self, rt: &R) {
+    pub fn end_without_places<R: Wait>(&self, rt: &R, means: &Means) {
         self.door.lock(rt).look_for_places();
-        self.end(rt);
+        self.end(rt, means);
     }
 
     /// Waits for the next connection. `None` once no more come.
@@ -73,7 +71,13 @@ impl<'a, A: Acceptor + Drop, Q: Admission> Arrivals<'a, A, Q> {
 
     /// Lets a connection in that came, if its worker has what it takes. `None` if it was refused, or nobody is let in
     /// any more.
-    pub fn admit<R: Wait>(&self, rt: &R, _permit: &Permit, came: Q::Came) -> Option<Q::Work> {
+    pub fn admit<R: Wait>(
+        &self,
+        rt: &R,
+        means: &Means,
+        _permit: &Permit,
+        came: Q::Came,
+    ) -> Option<Q::Work> {
         let mut door = self.door.lock(rt);
         if door.is_over() {
             drop(door);
@@ -84,17 +88,17 @@ impl<'a, A: Acceptor + Drop, Q: Admission> Arrivals<'a, A, Q> {
         let is_over = door.is_over();
         drop(door);
         if work.is_some() {
-            self.means.came(rt);
+            means.came(rt);
         }
         if is_over {
-            self.end(rt);
+            self.end(rt, means);
         }
         work
     }
 
     /// Counts an error of accepting. After one for want of descriptors or memory it waits first. If a connection was
     /// served then, the error is none of the hundred. Once the server has come to its end, the error is that of its end.
-    pub fn pause<R: Wait + Clock>(&self, rt: &R, error: AcceptError) {
+    pub fn pause<R: Wait + Clock>(&self, rt: &R, means: &Means, error: AcceptError) {
         let mut door = self.door.lock(rt);
         let was_over = door.is_over();
         if !was_over {
@@ -104,19 +108,19 @@ impl<'a, A: Acceptor + Drop, Q: Admission> Arrivals<'a, A, Q> {
         if was_over {
             return;
         }
-        if error.lacks_room && self.wait_while_scarce(rt) {
+        if error.lacks_room && self.wait_while_scarce(rt, means) {
             return;
         }
         self.door.lock(rt).count_fault();
-        self.end_if_over(rt);
+        self.end_if_over(rt, means);
     }
 
     // Waits for a pause, or until there may be descriptors and memory again. Whether a connection was served. Workers
     // wait one after another, so that all together try no more often than one would.
-    fn wait_while_scarce<R: Wait + Clock>(&self, rt: &R) -> bool {
+    fn wait_while_scarce<R: Wait + Clock>(&self, rt: &R, means: &Means) -> bool {
         let turn = self.scarce.lock(rt);
         let pause = self.door.lock(rt).next_pause();
-        let was_any_served = self.means.wait_for_change(rt, pause);
+        let was_any_served = means.wait_for_change(rt, pause);
         if !was_any_served {
             thread::sleep(rt, pause);
         }

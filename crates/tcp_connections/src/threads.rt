@@ -1,7 +1,9 @@
 //! The threads of connections.
-ghost use Rattle.std.specs.Thread.{IsSync};
+ghost use Rattle.std.specs.Thread.{IsSend, IsSync};
 
+use crate::admission::Serving;
 use crate::handover::Handover;
+use crate::memory_look::MemoryLook;
 use std::alloc::Global;
 use std::sync::{Arc, Wait};
 use std::thread;
@@ -18,6 +20,47 @@ pub(crate) fn connection_thread() -> Builder {
 
 /// What gives streams from clients to a second thread, which passes them on, one after another.
 pub(crate) type Second<U> = Arc<Handover<U>, Global>;
+
+/// Starts a second thread, which passes on what each client sends, one after another, until no more come. Whether the
+/// system had one.
+pub(crate) fn start_passing_up<'a: 's, 's, E, R, V, T>(
+    scope: &Scope<'s, E>,
+    rt: &'a R,
+    server: &'a V,
+    memory: &'s MemoryLook,
+    sent: Second<V::Upward>,
+) -> bool
+where
+    R: Wait + Sync + 's,
+    V: Serving<T> + Sync + 's,
+    T: 's,
+{
+    connection_thread()
+        .spawn_scoped(
+            scope,
+            move ||
+                requires { IsSync R.row × IsSync V.row × IsSend V.Upward.row }
+            { pass_up_in_turn(rt, server, memory, &sent) },
+        )
+        .is_ok()
+}
+
+// Passes on what each client sends, one after another, until no more come.
+fn pass_up_in_turn<R: Wait, V: Serving<T>, T>(
+    rt: &R,
+    server: &V,
+    memory: &MemoryLook,
+    sent: &Handover<V::Upward>,
+) {
+    memory.begin_thread();
+    for _ in rt.forever() {
+        sent.finish(rt);
+        let Some(upward) = sent.take(rt) else {
+            return;
+        };
+        server.pass_up(upward);
+    }
+}
 
 /// Starts a thread that only waits until `end` is closed. Whether the system had one.
 pub(crate) fn start_waiting<'a: 's, 's, E, R>(

@@ -8,12 +8,12 @@ use crate::accepting::{Accepted, Acceptor};
 use crate::admission::{Admission, ServeEnd, Serving};
 use crate::arrivals::Arrivals;
 use crate::door::{Door, Errors, Pause};
-use crate::going_on::GoingOn;
+use crate::going_on::{GoingOn, start_going_on};
 use crate::handover::Handover;
 use crate::means::{Means, Permit, Want};
 use crate::memory_look::MemoryLook;
 use crate::supply::{Reserve, Supply};
-use crate::threads::{Second, connection_thread, has_processes, start_waiting};
+use crate::threads::{Second, connection_thread, has_processes, start_passing_up, start_waiting};
 use std::alloc::Global;
 use std::sync::{Arc, Wait};
 use std::thread;
@@ -67,7 +67,7 @@ where
         rt,
         alloc,
         server,
-        arrivals: Arrivals::new(acceptor, Door::new(admission, count), &means),
+        arrivals: Arrivals::new(acceptor, Door::new(admission, count)),
         memory: MemoryLook::new(alloc, supply),
         has_reserve: supply.has_reserve(),
         came_up: Handover::new(),
@@ -85,7 +85,7 @@ struct Workers<'a, R, V, A, Q: Admission> {
     rt: &'a R,
     alloc: Global,
     server: &'a V,
-    arrivals: Arrivals<'a, A, Q>,
+    arrivals: Arrivals<A, Q>,
     memory: MemoryLook,
     // whether there is memory for a process in reserve
     has_reserve: bool,
@@ -93,23 +93,6 @@ struct Workers<'a, R, V, A, Q: Admission> {
     came_up: Handover<bool>,
     means: &'a Means,
     reserve: &'a Reserve,
-}
-
-// Passes on what each client sends, one after another, until no more come.
-fn pass_up_in_turn<R: Wait, V: Serving<T>, T>(
-    rt: &R,
-    server: &V,
-    memory: &MemoryLook,
-    sent: &Handover<V::Upward>,
-) {
-    memory.begin_thread();
-    for _ in rt.forever() {
-        sent.finish(rt);
-        let Some(upward) = sent.take(rt) else {
-            return;
-        };
-        server.pass_up(upward);
-    }
 }
 
 // Whether there are processes for so many programs that begin, if there were too few before.
@@ -137,7 +120,7 @@ where
                 if !workers.has_reserve || !start_waiting(scope, workers.rt, &workers.reserve.end) {
                     workers.reserve.give_back(workers.rt);
                 }
-                workers.arrivals.end_if_over(workers.rt);
+                workers.arrivals.end_if_over(workers.rt, workers.means);
                 workers.make_workers(scope);
                 workers.reserve.give_back(workers.rt);
             },
@@ -152,7 +135,7 @@ where
             match self.means.wait_for_want(self.rt) {
                 Want::Worker => {}
                 Want::NoPlaces => {
-                    self.arrivals.end_without_places(self.rt);
+                    self.arrivals.end_without_places(self.rt, self.means);
                     return;
                 }
                 Want::End => return,
@@ -164,7 +147,7 @@ where
             }
             left = left.saturating_sub(1);
             if left == 0 && !is_made {
-                self.arrivals.give_up(self.rt);
+                self.arrivals.give_up(self.rt, self.means);
                 return;
             }
             self.means.pause(self.rt, pause.next());
@@ -242,17 +225,11 @@ where
 
     // Starts a second thread, if the system has one. If memory is limited it waits until the thread is there.
     fn start_second<'s, 'e>(&'s self, scope: &'s Scope<'s, &'e ()>) -> Option<Second<V::Upward>> {
-        let workers = self;
-        let his = Arc::new(workers.alloc, Handover::new()).ok()?;
+        let his = Arc::new(self.alloc, Handover::new()).ok()?;
         let sent = Arc::try_clone(&his).ok()?;
-        let started = connection_thread().spawn_scoped(
-            scope,
-            move ||
-                requires { IsSync R.row × IsSync V.row × IsSend Q.row × IsSend V.Upward.row × IsSend V.Alive.row
-                    × IsSend A.row × IsSync A.row }
-            { pass_up_in_turn(workers.rt, workers.server, &workers.memory, &his) },
-        );
-        started.ok()?;
+        if !start_passing_up(scope, self.rt, self.server, &self.memory, his) {
+            return None;
+        }
         if self.memory.is_limited() {
             sent.wait(self.rt);
         }
@@ -281,7 +258,7 @@ where
                 Some(Ok(came)) => self.serve(scope, permit, came, second),
                 Some(Err(error)) => {
                     self.means.give_back(self.rt, permit);
-                    self.arrivals.pause(self.rt, error);
+                    self.arrivals.pause(self.rt, self.means, error);
                 }
                 None => self.means.give_back(self.rt, permit),
             }
@@ -297,7 +274,7 @@ where
         came: Q::Came,
         second: &mut Option<Second<V::Upward>>,
     ) {
-        let Some(work) = self.arrivals.admit(self.rt, &permit, came) else {
+        let Some(work) = self.arrivals.admit(self.rt, self.means, &permit, came) else {
             self.means.give_back(self.rt, permit);
             return;
         };
@@ -337,7 +314,7 @@ where
                 permit,
                 second,
             };
-            self.start_ending(scope, going_on);
+            start_going_on(scope, going_on);
             return None;
         }
         let over = self.server.finish(alive);
@@ -347,26 +324,5 @@ where
         self.means
             .ended(self.rt, permit, self.server.is_retired(&over));
         second
-    }
-
-    // Starts a thread that goes on with a connection. Without a thread this one does.
-    fn start_ending<'s, 'e>(
-        &'s self,
-        scope: &'s Scope<'s, &'e ()>,
-        going_on: GoingOn<'a, R, V, Q::Work>,
-    ) {
-        let workers = self;
-        let _ = connection_thread().spawn_scoped(
-            scope,
-            move ||
-                requires { IsSync R.row × IsSync V.row × IsSend Q.row × IsSend V.Upward.row × IsSend V.Alive.row
-                    × IsSend A.row × IsSync A.row }
-            { workers.end_one(going_on) },
-        );
-    }
-
-    // Goes on with a connection to its end.
-    fn end_one(&self, going_on: GoingOn<'a, R, V, Q::Work>) {
-        drop(going_on);
     }
 }
