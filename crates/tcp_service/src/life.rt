@@ -17,7 +17,7 @@ use crate::wrappers::{Chains, chains_of};
 use child_jobs::{DropCause, Local, Place, Running};
 use one_connection::{Agent, Served, serve_one};
 use rule_lookup::Peer;
-use shared_site::Made;
+use shared_site::{Ground, Made};
 use std::snapshot::Snapshot;
 use tcp_connections::{ConnectionLauncher, Shut, wait_in_rounds};
 
@@ -58,7 +58,49 @@ pub(crate) type Beginning<'a, H> = (
     Alive<'a, H>,
 );
 
+/// A program that was started for a connection, with what the connection found.
+type Ran<H> = (Running<<H as Ground>::Places, <H as Host>::Job>, FoundBy<H>);
+
 impl<H: Host> Server<'_, H> {
+    // Serves a connection up to the start of its program.
+    fn serve(
+        &self,
+        serial: u64,
+        place: Place<H::Places>,
+        peer: &Peer,
+        local: &Local,
+        streams: &mut ClientStreams<H::Holder>,
+    ) -> Result<Ran<H>, Over>
+        ensures own { IfOk result (λ ran. place_of ran.0 ≡ place) }
+        ensures child { IfOk result (λ ran. IsOwnChild (kept_opening H.File.bytes ran.1)
+            (IsFoundFor H.Places.met (H.Rules.gives self.now.context.rules.now) H.Handle.opened serial)
+            H.File.honest H.File.sound peer.now local.now self.now.context.plan.now
+            (H.Job.program (job_of ran.0)) (H.Job.environment (job_of ran.0))) }
+        ensures over { IfErr result (λ over. over.serial ≡ serial) }
+        ensures reason { IfErr result (λ over. EndsWithReason
+            (IsFoundFor H.Places.met (H.Rules.gives self.now.context.rules.now) H.Handle.opened serial)
+            H.File.honest H.File.sound peer.now local.now self.now.context.plan.now
+            (H.Starter.refuses self.now.starter.now streams.old.shut) serial (asked over.last.value)) }
+    {
+        let mut agent = self.context.agent(serial, local);
+        let launcher = ConnectionLauncher {
+            starter: self.starter,
+            connection: &streams.shut,
+        };
+        let (alloc, plan) = (self.context.alloc, self.context.plan);
+        let writer = &mut streams.writer;
+        match serve_one(
+            alloc, &mut agent, place, serial, peer, local, plan, launcher, writer,
+        ) {
+            Served::Running(running) => Ok((running, agent.into_found())),
+            Served::Denied | Served::StartFailed(_) | Served::Dropped(_) => {
+                let over = Over::of(&agent, serial, false);
+                drop(agent);
+                Err(over)
+            }
+        }
+    }
+
     // Waits for a program in rounds, ends its connection, and only then tells how the program ended. So a slow log
     // keeps no client waiting.
     fn see_out(
@@ -168,18 +210,8 @@ impl<'a, H: Host> Admitted<'a, H> {
             mut streams,
             made: _,
         } = self;
-        let mut agent = server.context.agent(serial, &local);
-        let launcher = ConnectionLauncher {
-            starter: server.starter,
-            connection: &streams.shut,
-        };
-        let (alloc, plan) = (server.context.alloc, server.context.plan);
-        let writer = &mut streams.writer;
-        match serve_one(
-            alloc, &mut agent, place, serial, &peer, &local, plan, launcher, writer,
-        ) {
-            Served::Running(running) => {
-                let found = agent.into_found();
+        match server.serve(serial, place, &peer, &local, &mut streams) {
+            Ok((running, found)) => {
                 let kept = Snapshot::of(&peer);
                 drop(peer);
                 let alive = Alive {
@@ -193,9 +225,7 @@ impl<'a, H: Host> Admitted<'a, H> {
                 };
                 Ok((alive, streams))
             }
-            Served::Denied | Served::StartFailed(_) | Served::Dropped(_) => {
-                let over = Over::of(&agent, serial, false);
-                drop(agent);
+            Err(over) => {
                 streams.end();
                 drop(local);
                 drop(peer);
