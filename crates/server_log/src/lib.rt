@@ -9,9 +9,9 @@
 
 pub mod cause;
 pub mod fault;
-mod fields;
-pub mod lines;
+mod lines;
 pub mod log;
+mod pieces;
 pub mod told;
 
 pub use cause::Cause;
