@@ -1,6 +1,6 @@
-use Rattle.std.proofs.Common.{◌++◌, codes, ap, ◌∙◌, sym}
+use Rattle.std.proofs.Common.{◌++◌, ap, ◌∙◌, sym}
 use Rattle.std.proofs.Math.ListN.{drop_of_length-le}
-use Rattle.byte_text.proofs.Appends.{first, last, renamed}
+use Rattle.byte_text.proofs.Appends.{first}
 use Rattle.byte_text.proofs.CutParts.{cut_later}
 use Rattle.server_log.specs.Pieces.{with_pieces}
 use Rattle.server_log.proofs.pieces.push_pieces.Goals as goal
@@ -15,5 +15,4 @@ pub returns : goal.returns
 returns c =
     let (so_far, is, rest) = c.loop-piece.invariant in
     let all = ap (with_pieces so_far) (drop_of_length-le c.args.pieces.now c.loop-piece-test.false) in
-    renamed _ c.push_text.new.out.items c.push_text.result (ap (λ bytes. bytes ++ codes "\n") (sym all ∙ rest))
-    (last _ c.push_text.new.out.items c.push_text.result (first c.args.out.now.items so_far is) c.push_text.ensures)
+    is ∙ ap (λ bytes. c.args.out.now.items ++ bytes) (sym all ∙ rest)
