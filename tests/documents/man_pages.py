@@ -387,11 +387,10 @@ def check_server_texts(checks):
 
 def check_log_lines(checks):
     page, source = Page("tcpserver"), read("server_log/src/lines.rt")
-    begins = {text.rstrip().removesuffix(" on") for text in re.findall(r'"(tcpserver: [^"]*)"', source)}
+    pieces = re.findall(r'Text\("(tcpserver: [^"]*)"\)', source + read("server_log/src/log.rt"))
+    begins = {text.rstrip().removesuffix(" on") for text in pieces}
     verdicts = {"tcpserver: " + word.strip() for word in words_of(source, "verdict_word").values()}
     begins = begins - {"tcpserver:"} | verdicts
-    # the line of a cause is made for each tool
-    begins |= {"tcpserver" + text.rstrip() for text in re.findall(r'"(: cause: )"', read("byte_text/src/line.rt"))}
     # a warning is one whole text
     warnings = {text for text in re.findall(r'b"(tcpserver: [a-z, ]*)\\n"', read("server_log/src/log.rt"))} & set(page.log_lines())
     heads = {re.match(r"tcpserver: [a-z]+:?", line).group(0) for line in set(page.log_lines()) - warnings}

@@ -1,7 +1,7 @@
 -- The lines that tell what became of a rule text, which phase was reached, and what events come to.
 use Rattle.std.specs.Prelude.{ℕ, List, ◌++◌, Option, Some, None, codes, decimal}
 use Rattle.rule_lines.specs.declared.fault.LineKind.{LineKind}
-use Rattle.rule_lines.specs.declared.fault.LineKind.TheVariants.{NoVerdict, BadSetting, BadRange, NotText, NulByte, LongLine, LongText}
+use Rattle.rule_lines.specs.declared.fault.LineKind.TheVariants.{LongText}
 use Rattle.rule_lines.specs.FaultTexts.{kind_text}
 use Rattle.dir_calls.specs.declared.phase.Phase.{Phase}
 use Rattle.dir_calls.specs.PhaseWords.{phase_text}
@@ -14,12 +14,7 @@ numbered line kind = codes "line " ++ decimal line ++ codes ": " ++ kind_text ki
 -- a fault: with its line, but for a text that is too long
 abbrev pub fault_text : ℕ → LineKind → List ℕ
 fault_text line LongText = kind_text LongText
-fault_text line NoVerdict = numbered line NoVerdict
-fault_text line BadSetting = numbered line BadSetting
-fault_text line BadRange = numbered line BadRange
-fault_text line NotText = numbered line NotText
-fault_text line NulByte = numbered line NulByte
-fault_text line LongLine = numbered line LongLine
+fault_text line kind = numbered line kind
 
 -- the phase that was reached, if an installation was begun
 abbrev pub reached_line : Option Phase → List ℕ

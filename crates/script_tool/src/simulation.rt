@@ -17,7 +17,7 @@ ghost use Rattle.rules_tools.specs.Reviews.{profile};
 ghost use Rattle.script_tool.specs.Sim.{BegunInstall, State, start, after, is_in_order, printed, refusal_of, replayed, told};
 ghost use Rattle.script_tool.specs.Texts.{Texts, at_phase, position_of};
 
-use crate::replies::{append_fault, append_illegal, append_reached, append_report};
+use crate::replies::{append_fault, append_reached, append_report};
 use cdb_files::CdbFile;
 use dir_calls::{Choice, Dir, DirFault, Name, NameFault, Phase};
 use memory_dirs::{MemDir, MemFile};
@@ -31,6 +31,7 @@ use rules_install::{FileNames, Install, InstallFault, SameName};
 use script_words::Command;
 use server_events::laws::first_illegal;
 use server_events::{Event, ReplayFault, replay};
+use server_log::{Piece, append_line};
 use std::alloc::{AllocError, Global};
 use std::collections::BTreeMap;
 use std::marker::Model;
@@ -440,10 +441,7 @@ fn append_refusal(out: &mut Vec<u8>, fault: InstallFault) -> Result<(), AllocErr
         → OnOk result (out.new.items ≡ out.old.items ++ told words (refusal_of text)) }
 {
     match fault {
-        InstallFault::Line(fault) => {
-            append_fault(out, &fault)?;
-            out.extend_from_slice(b"\n")
-        }
+        InstallFault::Line(fault) => append_fault(out, &fault),
         InstallFault::TooLarge => out.extend_from_slice(b"compiled file too large\n"),
         InstallFault::OutOfMemory => Err(AllocError),
         InstallFault::Disk(..) | InstallFault::Over => unreachable!(),
@@ -488,7 +486,9 @@ fn append_outcome(alloc: Global, history: &History, out: &mut Vec<u8>) -> Result
     let events = history.events.as_slice();
     match replay(alloc, history.limit, history.per_address, events) {
         Ok(report) => append_report(out, &report),
-        Err(ReplayFault::IllegalEvent(position)) => append_illegal(out, position),
+        Err(ReplayFault::IllegalEvent(position)) => {
+            append_line(out, &[Piece::Text("illegal "), Piece::Number(position)])
+        }
         Err(ReplayFault::OutOfMemory) => Err(AllocError),
     }
 }

@@ -4,16 +4,17 @@ ghost use Rattle.rule_lookup.specs.Lines.{lines_of};
 ghost use Rattle.rule_lookup.specs.Peers.{fits, given};
 ghost use Rattle.script_tool.specs.Judging.{HasRoom, Judges};
 ghost use Rattle.script_tool.specs.Kept.{Reads};
-ghost use Rattle.script_tool.specs.Logs.{asked, change_line, decided_now, differs, found_text, host_text, log_printed, now_text, sums_text, unread_line, verdict_name, was_text};
+ghost use Rattle.script_tool.specs.Logs.{asked, change_line, decided_now, differs, found_text, host_text, log_printed, sums_text, verdict_name, was_text};
 ghost use Rattle.script_tool.specs.Sim.{Prints};
 ghost use Rattle.script_words.specs.LogLines.{Tells, TellsPeer, reading};
 ghost use Rattle.script_words.specs.Meanings.{client_of, told_of};
 
 use crate::sim::{MOST_LINES, SimFault, read_fault, without_feed};
 use crate::simulation::Standing;
-use byte_text::{push_address, push_number, push_text};
 use rule_lookup::{Decision, Found, Peer, PeerFault, Verdict};
 use script_words::{End, LogLine, VerdictLine, read_line};
+use server_log::Piece::{Address, Number, Text};
+use server_log::{append_line, push_pieces};
 use std::alloc::{AllocError, Global};
 use std::io::{BufRead, Write};
 
@@ -159,42 +160,41 @@ fn push_change(out: &mut Vec<u8>, told: &VerdictLine<'_>, now: &Decision) -> Res
         (out.new.items ≡ out.old.items ++ change_line (told_of told.now) now.now) }
 {
     push_was(out, told)?;
-    push_now(out, now)
+    let (before, rule, after) = found_words(&now.found);
+    let pieces = [
+        Text(", now "),
+        Text(verdict_name(now.verdict)),
+        Text(" "),
+        Text(before),
+        Text(rule),
+        Text(after),
+    ];
+    append_line(out, &pieces)
 }
 
 fn push_was(out: &mut Vec<u8>, told: &VerdictLine<'_>) -> Result<(), AllocError>
     ensures { OnOk result (out.new.items ≡ out.old.items ++ was_text (told_of told.now)) }
 {
-    push_number(out, told.serial)?;
-    push_text(out, " ")?;
-    push_address(out, told.peer.ip)?;
-    push_text(out, " ")?;
-    push_text(out, host_text(told.peer.host))?;
-    push_text(out, " was ")?;
-    push_text(out, verdict_name(told.verdict))
+    let pieces = [
+        Number(told.serial),
+        Text(" "),
+        Address(told.peer.ip),
+        Text(" "),
+        Text(host_text(told.peer.host)),
+        Text(" was "),
+        Text(verdict_name(told.verdict)),
+    ];
+    push_pieces(out, &pieces)
 }
 
-fn push_now(out: &mut Vec<u8>, now: &Decision) -> Result<(), AllocError>
-    ensures { OnOk result (out.new.items ≡ out.old.items ++ now_text now.now) }
-{
-    push_text(out, ", now ")?;
-    push_text(out, verdict_name(now.verdict))?;
-    push_text(out, " ")?;
-    push_found(out, &now.found)?;
-    push_text(out, "\n")
-}
-
-fn push_found(out: &mut Vec<u8>, found: &Found) -> Result<(), AllocError>
-    ensures { OnOk result (out.new.items ≡ out.old.items ++ found_text found.now) }
+/// What decides, as the first line of an answer tells it: the address of a rule, and the words before and behind it.
+fn found_words(found: &Found) -> (&'static str, &str, &'static str)
+    ensures { result.0.now ++ result.1.now ++ result.2.now ≡ found_text found.now }
 {
     match found {
-        Found::Address(address) => {
-            push_text(out, "rule ")?;
-            push_text(out, address.as_str())?;
-            push_text(out, ":")
-        }
-        Found::Default => push_text(out, "default:"),
-        Found::NoFile => push_text(out, "no file"),
+        Found::Address(address) => ("rule ", address.as_str(), ":"),
+        Found::Default => ("default:", "", ""),
+        Found::NoFile => ("no file", "", ""),
     }
 }
 
@@ -216,25 +216,19 @@ fn host_text(host: Option<&str>) -> &str
     }
 }
 
-/// Adds the lines of the sums. After an `Err` a part may stand at the end of `out`.
+/// Adds the lines of the sums. After an `Err` the first may stand at the end of `out`.
 fn push_sums(out: &mut Vec<u8>, sums: Sums) -> Result<(), AllocError>
     ensures { OnOk result (out.new.items ≡ out.old.items ++ sums_text sums) }
 {
-    push_text(out, "changed ")?;
-    push_number(out, sums.changed)?;
-    push_text(out, " of ")?;
-    push_number(out, sums.told)?;
-    push_text(out, "\n")?;
-    push_unread(out, sums.unread)
-}
-
-fn push_unread(out: &mut Vec<u8>, unread: u64) -> Result<(), AllocError>
-    ensures { OnOk result (out.new.items ≡ out.old.items ++ unread_line unread) }
-{
-    if unread == 0 {
+    let changed = [
+        Text("changed "),
+        Number(sums.changed),
+        Text(" of "),
+        Number(sums.told),
+    ];
+    append_line(out, &changed)?;
+    if sums.unread == 0 {
         return Ok(());
     }
-    push_text(out, "unread ")?;
-    push_number(out, unread)?;
-    push_text(out, "\n")
+    append_line(out, &[Text("unread "), Number(sums.unread)])
 }

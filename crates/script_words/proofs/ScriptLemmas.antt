@@ -1,20 +1,23 @@
 -- Words, options and peers of a script.
-use Rattle.std.proofs.Common.{◌≡◌, ◌≢◌, ℕ, Bool, true, false, ◌&&◌, cond, eqb, List, [], ◌∷◌, ◌++◌, map, length, drop, Option, Some, None, MatchOption, refl, sym, ap, subst, ◌∙◌}
+use Rattle.std.proofs.Common.{◌≡◌, ◌≢◌, ℕ, Bool, true, false, ◌&&◌, cond, eqb, List, [], ◌∷◌, ◌++◌, map, length, drop, Option, Some, None, MatchOption, ◌<◌, ◌≤◌, arith, refl, sym, ap, ◌∙◌}
 use Rattle.std.specs.Borrow.{Bor}
 use Rattle.std.specs.List.{starts_with}
-use Rattle.std.specs.Option.{option_map}
+use Rattle.std.specs.Option.{ok_or, option_map}
+use Rattle.std.specs.Result.{IsErrAnd}
 use Rattle.std.specs.Char.{to_ascii_lowercase}
+use Rattle.std.specs.Bool.{Decides}
+use Rattle.std.proofs.lemmas.Slice.Eq.{bytes_eq-Decides}
 use Rattle.std.proofs.lemmas.Bool.{eq-eqb, eqb-true, false≢true}
 use Rattle.rule_lookup.specs.Peers.{Client, given, lowered, may_be_name}
 use Rattle.rule_lookup.specs.Addresses.{ipv4_in}
 use Rattle.std.specs.Str.{is_utf8}
-use Rattle.std.specs.Prelude.{IsUtf8, IfOk, IfErr, Result, Ok, Err, not}
+use Rattle.std.specs.Prelude.{IsUtf8, IfErr, Result, Ok, Err, bytes_eq, codes, not}
 use Rattle.std.proofs.lemmas.Str.{is_utf8-from_IsUtf8, IsUtf8-from_is_utf8}
 use Rattle.script_words.specs.declared.script.LineEnd.{LineEnd}
 use Rattle.script_words.specs.declared.script.LineEnd.TheVariants.{Bad, OutOfMemory}
 use Rattle.script_words.specs.declared.script.Command.{Command as Read}
-use Rattle.script_words.specs.Readings.{RefusesAs, RefusesLine, meaning}
-use Rattle.script_words.specs.Scripts.{Command, Skip, Add, command_in, command_of, has_words, words_of, option_in, fits, peer_at, peer_of}
+use Rattle.script_words.specs.Readings.{RefusesAs, RefusesLine, meaning, texts}
+use Rattle.script_words.specs.Scripts.{Command, Skip, Add, other_command, command_in, command_of, has_words, words_of, option_in, fits, peer_at, peer_of}
 
 -- a text begins with what it was made to begin with
 starts_with-append : (mark rest : List ℕ) → starts_with eqb (mark ++ rest) mark ≡ true
@@ -118,10 +121,40 @@ module _ (first : ℕ) (line rest : List ℕ) (is : line ≡ first ∷ rest) (no
     none true text = absurd (no_text (IsUtf8-from_is_utf8 line text))
     none false text = refl
 
--- a command that is read, or words that are refused, under another name of what is wanted
-pub reads_as : (wanted named : Option Command) (r : Result Read LineEnd) → wanted ≡ named → IfOk r (λ (command : Read). wanted ≡ Some (meaning command)) → IfOk r (λ (command : Read). named ≡ Some (meaning command))
-reads_as wanted named r same read =
-    subst (λ (o : Option Command). IfOk r (λ (command : Read). o ≡ Some (meaning command))) same read
+-- ---- why words give no command
 
-pub refuses_as : (wanted named : Option Command) (r : Result Read LineEnd) → wanted ≡ named → IfErr r (RefusesAs wanted) → IfErr r (RefusesAs named)
-refuses_as wanted named r same refused = subst (λ (o : Option Command). IfErr r (RefusesAs o)) same refused
+-- what is made of what is wanted is refused as that
+refuses_made : {X Y : Type 0} (made : X → Y) (wanted : Option X) (end : LineEnd) → RefusesAs wanted end → RefusesAs (option_map made wanted) end
+refuses_made made None Bad refused = refl
+refuses_made made None OutOfMemory refused = refused
+refuses_made made (Some x) Bad refused = absurd (cc)
+refuses_made made (Some x) OutOfMemory refused = refl
+
+pub refuses_later : {X Y T : Type 0} (made : X → Y) (wanted : Option X) (named : Option Y) (end : LineEnd) (r : Result T LineEnd) → IsErrAnd r (λ other. other ≡ end)
+    → RefusesAs wanted end → option_map made wanted ≡ named → IfErr r (RefusesAs named)
+refuses_later made wanted named end (Ok x) is refused same = tt
+refuses_later made wanted named end (Err other) is refused same = rw (is, ← same) (refuses_made made wanted end refused)
+
+-- a command that is not found is bad
+pub refuses_none : (found : Option Read) (wanted : Option Command) → option_map meaning found ≡ wanted → IfErr (ok_or found Bad) (RefusesAs wanted)
+refuses_none None wanted is = sym is
+refuses_none (Some command) wanted is = tt
+
+-- ---- the number of words
+
+pub three_or_more : (name : List ℕ) (words : List (Bor (List ℕ))) → 3 ≤ length words → None ≡ other_command name (texts words)
+three_or_more name [] many = absurd (omega (arith, many))
+three_or_more name (first ∷ []) many = absurd (omega (arith, many))
+three_or_more name (first ∷ second ∷ []) many = absurd (omega (arith, many))
+three_or_more name (first ∷ second ∷ third ∷ words) many = refl
+
+fails : {P : Type 0} (b : Bool) → Decides b P → ¬ P → b ≡ false
+fails true is not_so = absurd (not_so (is.0 refl))
+fails false is not_so = refl
+
+pub two_others : (name : List ℕ) (words : List (Bor (List ℕ))) → 2 ≤ length words → length words < 3 → name ≢ codes "events" → None ≡ other_command name (texts words)
+two_others name [] least most other = absurd (omega (arith, least))
+two_others name (first ∷ []) least most other = absurd (omega (arith, least))
+two_others name (first ∷ second ∷ []) least most other =
+    rw (fails (bytes_eq name (codes "events")) (bytes_eq-Decides name (codes "events")) other) refl
+two_others name (first ∷ second ∷ third ∷ words) least most other = absurd (omega (arith, most))

@@ -53,77 +53,43 @@ peer_from ip = record { ip = ip; port = 0; host = None; info = None }
 abbrev pub decision_with : Verdict → Decision
 decision_with verdict = record { found = found.Default; verdict = verdict; settings = [] }
 
--- a serial alone
-abbrev pub only_serial : List (List ℕ) → Option ℕ
-only_serial (word ∷ []) = serial_in word
-only_serial words = None
+-- an event of a connection that has no words more; the fault of a failed start is `Other`, and the cause of a drop the directory
+abbrev pub serial_event : List ℕ → ℕ → Option Event
+serial_event name n =
+    if bytes_eq name (codes "started") then Some (Started n)
+    else (if bytes_eq name (codes "startfailed") then Some (StartFailed n fault.Other)
+    else (if bytes_eq name (codes "retired") then Some (Retired n)
+    else (if bytes_eq name (codes "dropped") then Some (Dropped n cause.Directory) else None)))
 
--- a phase alone
-abbrev pub only_phase : List (List ℕ) → Option Phase
-only_phase (word ∷ []) = phase_in word
-only_phase words = None
+-- an event with one word: a phase of an installation, or the serial of a connection
+abbrev pub event_with : List ℕ → List ℕ → Option Event
+event_with name word =
+    if bytes_eq name (codes "phase") then option_map Stepped (phase_in word)
+    else (if bytes_eq name (codes "failed") then option_map StepFailed (phase_in word)
+    else option_and_then (serial_event name) (serial_in word))
 
--- a serial, and one word after it
-abbrev pub serial_and_word : List (List ℕ) → Option (ℕ × List ℕ)
-serial_and_word (serial ∷ word ∷ []) = option_map (λ n. (n, word)) (serial_in serial)
-serial_and_word words = None
+-- an event of a connection that has a word more
+abbrev pub other_event : List ℕ → ℕ → List ℕ → Option Event
+other_event name n word =
+    if bytes_eq name (codes "opened") then option_map (Opened n) (there_in word)
+    else (if bytes_eq name (codes "decided") then option_map (λ verdict. Decided n (decision_with verdict)) (verdict_in word)
+    else (if bytes_eq name (codes "ended") then option_map (Ended n) (status_in word) else None))
 
--- a serial, and what the word after it is
-abbrev pub serial_and : {T : Type 0} → (List ℕ → Option T) → (ℕ → T → Event) → List (List ℕ) → Option Event
-serial_and read event words =
-    option_and_then (λ p. option_map (event p.0) (read p.1)) (serial_and_word words)
-
--- no words more
-abbrev pub alone : {T : Type 0} → T → List (List ℕ) → Option T
-alone x [] = Some x
-alone x (word ∷ words) = None
-
--- a decision with a verdict alone, as an event
-abbrev pub decided_as : ℕ → Verdict → Event
-decided_as n verdict = Decided n (decision_with verdict)
-
--- a start that failed otherwise, and a drop since the directory failed
-abbrev pub start_failed_otherwise : ℕ → Event
-start_failed_otherwise n = StartFailed n fault.Other
-
-abbrev pub dropped_by_directory : ℕ → Event
-dropped_by_directory n = Dropped n cause.Directory
-
--- the events other than an admission; the fault of a failed start is `Other`, and the cause of a drop the directory
-abbrev pub other_event : List ℕ → List (List ℕ) → Option Event
-other_event name words =
-    if bytes_eq name (codes "opened") then serial_and there_in Opened words
-    else (if bytes_eq name (codes "decided") then serial_and verdict_in (λ n verdict. Decided n (decision_with verdict)) words
-    else (if bytes_eq name (codes "started") then option_map Started (only_serial words)
-    else (if bytes_eq name (codes "startfailed") then option_map (λ n. StartFailed n fault.Other) (only_serial words)
-    else (if bytes_eq name (codes "ended") then serial_and status_in Ended words
-    else (if bytes_eq name (codes "retired") then option_map Retired (only_serial words)
-    else (if bytes_eq name (codes "dropped") then option_map (λ n. Dropped n cause.Directory) (only_serial words)
-    else (if bytes_eq name (codes "phase") then option_map Stepped (only_phase words)
-    else (if bytes_eq name (codes "failed") then option_map StepFailed (only_phase words)
-    else (if bytes_eq name (codes "stop") then alone Stop words else None)))))))))
-
--- the event with a name, and the words after that
-abbrev pub event_named : List ℕ → List (List ℕ) → Option Event
-event_named name words =
-    if bytes_eq name (codes "admitted") then serial_and ipv4_in (λ n ip. Admitted n (peer_from ip)) words
-    else other_event name words
+abbrev pub serial_and_word : List ℕ → ℕ → List ℕ → Option Event
+serial_and_word name n word =
+    if bytes_eq name (codes "admitted") then option_map (λ ip. Admitted n (peer_from ip)) (ipv4_in word)
+    else other_event name n word
 
 -- the event that words are
 abbrev pub event_in : List (List ℕ) → Option Event
-event_in [] = None
-event_in (name ∷ words) = event_named name words
+event_in (name ∷ []) = if bytes_eq name (codes "stop") then Some Stop else None
+event_in (name ∷ word ∷ []) = event_with name word
+event_in (name ∷ serial ∷ word ∷ []) = option_and_then (λ n. serial_and_word name n word) (serial_in serial)
+event_in words = None
 
 -- a limit of a list of events
 abbrev pub limit_in : List ℕ → Option ℕ
 limit_in word = number_in word 1 10000
-
--- the limit, and the limit per address, which is the same if it is left out
-abbrev pub limits_in : List (List ℕ) → Option (ℕ × ℕ)
-limits_in (limit ∷ []) = option_map (λ n. (n, n)) (limit_in limit)
-limits_in (limit ∷ per_address ∷ []) =
-    option_and_then (λ n. option_map (λ m. (n, m)) (limit_in per_address)) (limit_in limit)
-limits_in words = None
 
 -- a list of events under a limit and a limit per address
 pub record History : Type 0 where

@@ -1,5 +1,5 @@
 -- The lines of a script, as commands.
-use Rattle.std.specs.Prelude.{ℕ, Bool, true, false, not, ◌&&◌, ◌==◌, nat_eq, List, [], ◌∷◌, map, length, drop, Option, Some, None, option_map, codes, bytes_eq, if◌then◌else◌}
+use Rattle.std.specs.Prelude.{ℕ, Bool, true, false, not, ◌&&◌, ◌==◌, nat_eq, List, [], ◌∷◌, map, length, drop, Option, Some, None, option_map, option_and_then, codes, bytes_eq, if◌then◌else◌}
 use Rattle.std.specs.Char.{to_ascii_lowercase}
 use Rattle.std.specs.List.{starts_with, slice_split}
 use Rattle.std.specs.Str.{is_utf8}
@@ -9,7 +9,7 @@ use Rattle.rule_lookup.specs.Addresses.{ipv4_in}
 use Rattle.rule_lookup.specs.Peers.{Client, is_peer_name}
 use Rattle.dir_calls.specs.declared.phase.Phase.{Phase}
 use Rattle.server_events.specs.declared.event.Event.{Event}
-use Rattle.script_words.specs.Events.{alone, event_in, limits_in, only_phase}
+use Rattle.script_words.specs.Events.{event_in, limit_in, phase_in}
 
 -- what a line asks for: nothing; a line more of the pending text, that this be installed, or that its installation begin, or go on to a
 -- phase; a stop; a decision by the text that stands, a reader of it, or a decision by a reader's text; an empty list of events under a
@@ -84,18 +84,10 @@ choice_in word =
     else (if bytes_eq word (codes "empty") then Some Empty
     else (if bytes_eq word (codes "junk") then Some Junk else None))
 
-abbrev pub only_choice : List (List ℕ) → Option Choice
-only_choice (word ∷ []) = choice_in word
-only_choice words = None
-
 -- a reader's name, which is not empty
 abbrev pub reader_in : List ℕ → Option (List ℕ)
 reader_in [] = None
 reader_in (b ∷ bs) = Some (b ∷ bs)
-
-abbrev pub only_reader : List (List ℕ) → Option (List ℕ)
-only_reader (word ∷ []) = reader_in word
-only_reader words = None
 
 -- a reader's name, and the words of a peer
 abbrev pub question_of : Option (List ℕ) → Option Client → Option Command
@@ -106,24 +98,40 @@ abbrev pub question_in : List (List ℕ) → Option Command
 question_in [] = None
 question_in (name ∷ words) = question_of (reader_in name) (peer_in words)
 
+-- a command that has no words more
+abbrev pub bare_command : List ℕ → Option Command
+bare_command name =
+    if bytes_eq name (codes "install") then Some Install
+    else (if bytes_eq name (codes "begin") then Some Begin
+    else (if bytes_eq name (codes "replay") then Some Replay
+    else (if bytes_eq name (codes "verdicts") then Some Verdicts else None)))
+
 -- a list of events under these limits
-abbrev pub events_under : ℕ × ℕ → Command
-events_under p = BeginEvents p.0 p.1
+abbrev pub limits_in : List ℕ → List ℕ → Option Command
+limits_in limit per_address = option_and_then (λ n. option_map (BeginEvents n) (limit_in per_address)) (limit_in limit)
+
+-- a command with one word; the limit per address is the limit if it is left out
+abbrev pub command_with : List ℕ → List ℕ → Option Command
+command_with name word =
+    if bytes_eq name (codes "to") then option_map To (phase_in word)
+    else (if bytes_eq name (codes "stop") then option_map Stop (choice_in word)
+    else (if bytes_eq name (codes "reader") then option_map Open (reader_in word)
+    else (if bytes_eq name (codes "events") then limits_in word word else None)))
+
+-- the commands that name no peer and no event
+abbrev pub other_command : List ℕ → List (List ℕ) → Option Command
+other_command name [] = bare_command name
+other_command name (word ∷ []) = command_with name word
+other_command name (limit ∷ per_address ∷ []) =
+    if bytes_eq name (codes "events") then limits_in limit per_address else None
+other_command name words = None
 
 -- the command with a name, and the words after that
 abbrev pub command_named : List ℕ → List (List ℕ) → Option Command
 command_named name words =
-    if bytes_eq name (codes "install") then alone Install words
-    else (if bytes_eq name (codes "begin") then alone Begin words
-    else (if bytes_eq name (codes "to") then option_map To (only_phase words)
-    else (if bytes_eq name (codes "stop") then option_map Stop (only_choice words)
-    else (if bytes_eq name (codes "ask") then option_map Ask (peer_in words)
-    else (if bytes_eq name (codes "reader") then option_map Open (only_reader words)
+    if bytes_eq name (codes "ask") then option_map Ask (peer_in words)
     else (if bytes_eq name (codes "askby") then question_in words
-    else (if bytes_eq name (codes "events") then option_map (λ p. BeginEvents p.0 p.1) (limits_in words)
-    else (if bytes_eq name (codes "event") then option_map AddEvent (event_in words)
-    else (if bytes_eq name (codes "replay") then alone Replay words
-    else (if bytes_eq name (codes "verdicts") then alone Verdicts words else None))))))))))
+    else (if bytes_eq name (codes "event") then option_map AddEvent (event_in words) else other_command name words))
 
 -- the command that words are
 abbrev pub command_in : List (List ℕ) → Option Command

@@ -1,14 +1,12 @@
 //! Events in the words of a script.
-ghost use Rattle.std.specs.Borrow.{Bor};
-ghost use Rattle.std.specs.Prelude.{◌≡◌, ℕ, List, Some, IfOk, IfErr, codes, option_map};
-ghost use Rattle.server_events.specs.declared.event.Event.TheVariants.{Ended, Opened, Retired, Started, StepFailed, Stepped, Stop};
+ghost use Rattle.std.specs.Prelude.{◌≡◌, Some, IfOk, IfErr};
 ghost use Rattle.script_words.specs.Readings.{RefusesAs, texts};
-ghost use Rattle.script_words.specs.Events.{alone, decided_as, decision_with, dropped_by_directory, event_in, event_named, limit_in, only_phase, only_serial, other_event, phase_in, serial_and, serial_and_word, serial_in, start_failed_otherwise, status_in, there_in, verdict_in};
+ghost use Rattle.script_words.specs.Events.{event_in, event_with, limit_in, other_event, phase_in, serial_and_word, serial_event, serial_in, status_in, there_in, verdict_in};
 
 use crate::script::LineEnd;
 use child_jobs::{DropCause, StartFault, Status};
 use dir_calls::Phase;
-use rule_lookup::{Decision, Found, Peer, PeerFault, Settings, Verdict, parse_address};
+use rule_lookup::{Decision, Found, Peer, Settings, Verdict, parse_address};
 use server_events::Event;
 use server_words::number_in;
 use std::alloc::Global;
@@ -21,10 +19,15 @@ pub(crate) fn read_event(alloc: Global, words: &[&str]) -> Result<Event, LineEnd
     ensures read { IfOk result (λ event. event_in (texts words.now) ≡ Some event) }
     ensures refused { IfErr result (RefusesAs (event_in (texts words.now))) }
 {
-    let Some((name, words)) = words.split_first() else {
-        return Err(LineEnd::Bad);
-    };
-    event_named(alloc, name, words)
+    match words {
+        [name] if *name == "stop" => Ok(Event::Stop),
+        [name, word] => event_with(name, word).ok_or(LineEnd::Bad),
+        [name, serial, word] => {
+            let serial = serial_in(serial).ok_or(LineEnd::Bad)?;
+            serial_and_word(alloc, name, serial, word)
+        }
+        _ => Err(LineEnd::Bad),
+    }
 }
 
 /// Reads a limit of a list of events.
@@ -34,183 +37,79 @@ pub(crate) fn limit_in(word: &str) -> Option<u64>
     number_in(word, 1, MOST_LIMIT)
 }
 
-/// Reads what belongs to the event with a name.
-fn event_named(alloc: Global, name: &str, words: &[&str]) -> Result<Event, LineEnd>
-    ensures read { IfOk result (λ event. event_named name.now (texts words.now) ≡ Some event) }
-    ensures refused { IfErr result (RefusesAs (event_named name.now (texts words.now))) }
+/// Reads an event with one word.
+fn event_with(name: &str, word: &str) -> Option<Event>
+    ensures { result ≡ event_with name.now word.now }
 {
-    if name == "admitted" {
-        return admission(alloc, words);
+    match name {
+        "phase" => {
+            let phase = phase_in(word)?;
+            Some(Event::Stepped { phase })
+        }
+        "failed" => {
+            let phase = phase_in(word)?;
+            Some(Event::StepFailed { phase })
+        }
+        _ => serial_event(name, serial_in(word)?),
     }
-    other_event(alloc, name, words).ok_or(LineEnd::Bad)
 }
 
-/// Reads a connection that is let in from an address, without names and with port 0.
-fn admission(alloc: Global, words: &[&str]) -> Result<Event, LineEnd>
-    ensures read { IfOk result (λ event.
-        event_named (codes "admitted") (texts words.now) ≡ Some event) }
-    ensures refused { IfErr result (RefusesAs (event_named (codes "admitted") (texts words.now))) }
+/// An event of a connection that has no words more. A fault of a start has no words, and is `Other`. Nor has the cause
+/// of a drop, which is that the directory failed.
+fn serial_event(name: &str, serial: u64) -> Option<Event>
+    ensures { result ≡ serial_event name.now serial }
 {
-    let (serial, address) = serial_and_word(words).ok_or(LineEnd::Bad)?;
-    let ip = parse_address(address).ok_or(LineEnd::Bad)?;
+    match name {
+        "started" => Some(Event::Started { serial }),
+        "startfailed" => Some(Event::StartFailed {
+            serial,
+            fault: StartFault::Other,
+        }),
+        "retired" => Some(Event::Retired { serial }),
+        "dropped" => Some(Event::Dropped {
+            serial,
+            cause: DropCause::Directory,
+        }),
+        _ => None,
+    }
+}
+
+/// Reads an event of a connection that has a word more. One that is let in has no names, and port 0.
+fn serial_and_word(alloc: Global, name: &str, serial: u64, word: &str) -> Result<Event, LineEnd>
+    ensures read { IfOk result (λ event. serial_and_word name.now serial word.now ≡ Some event) }
+    ensures refused { IfErr result (RefusesAs (serial_and_word name.now serial word.now)) }
+{
+    if name != "admitted" {
+        return other_event(alloc, name, serial, word).ok_or(LineEnd::Bad);
+    }
+    let ip = parse_address(word).ok_or(LineEnd::Bad)?;
     match Peer::new(alloc, ip, 0, None, None) {
         Ok(peer) => Ok(Event::Admitted { serial, peer }),
         Err(_) => Err(LineEnd::OutOfMemory),
     }
 }
 
-/// Reads what belongs to an event other than an admission.
-fn other_event(alloc: Global, name: &str, words: &[&str]) -> Option<Event>
-    ensures { result ≡ other_event name.now (texts words.now) }
+/// The same of an event other than an admission. A decision has a verdict alone.
+fn other_event(alloc: Global, name: &str, serial: u64, word: &str) -> Option<Event>
+    ensures { result ≡ other_event name.now serial word.now }
 {
     match name {
-        "opened" => opened(words),
-        "decided" => decided(alloc, words),
-        "started" => started(words),
-        "startfailed" => start_failed(words),
-        "ended" => ended(words),
-        "retired" => retired(words),
-        "dropped" => dropped(words),
-        "phase" => stepped(words),
-        "failed" => step_failed(words),
-        "stop" => stop(words),
-        _ => None,
-    }
-}
-
-/// Reads that a connection's rules were opened, or were not there.
-fn opened(words: &[&str]) -> Option<Event>
-    ensures { result ≡ serial_and there_in Opened (texts words.now) }
-{
-    let (serial, word) = serial_and_word(words)?;
-    let there = there_in(word)?;
-    Some(Event::Opened { serial, there })
-}
-
-/// Reads that a connection was decided.
-fn decided(alloc: Global, words: &[&str]) -> Option<Event>
-    ensures { result ≡ serial_and verdict_in decided_as (texts words.now) }
-{
-    let (serial, word) = serial_and_word(words)?;
-    let verdict = verdict_in(word)?;
-    Some(Event::Decided {
-        serial,
-        decision: decision_with(alloc, verdict),
-    })
-}
-
-/// Reads that a connection's child ended.
-fn ended(words: &[&str]) -> Option<Event>
-    ensures { result ≡ serial_and status_in Ended (texts words.now) }
-{
-    let (serial, word) = serial_and_word(words)?;
-    let status = status_in(word)?;
-    Some(Event::Ended { serial, status })
-}
-
-/// Reads that an installation reached a phase.
-fn stepped(words: &[&str]) -> Option<Event>
-    ensures { result ≡ option_map Stepped (only_phase (texts words.now)) }
-{
-    let phase = only_phase(words)?;
-    Some(Event::Stepped { phase })
-}
-
-/// Reads that an installation failed on the way to a phase.
-fn step_failed(words: &[&str]) -> Option<Event>
-    ensures { result ≡ option_map StepFailed (only_phase (texts words.now)) }
-{
-    let phase = only_phase(words)?;
-    Some(Event::StepFailed { phase })
-}
-
-/// Reads a stop of the server, which has no more words.
-fn stop(words: &[&str]) -> Option<Event>
-    ensures { result ≡ alone Stop (texts words.now) }
-{
-    if words.is_empty() {
-        Some(Event::Stop)
-    } else {
-        None
-    }
-}
-
-/// Reads that a connection's child was started.
-fn started(words: &[&str]) -> Option<Event>
-    ensures { result ≡ option_map Started (only_serial (texts words.now)) }
-{
-    let serial = only_serial(words)?;
-    Some(Event::Started { serial })
-}
-
-/// Reads that a connection's child could not be started. The fault has no words, and is `Other`.
-fn start_failed(words: &[&str]) -> Option<Event>
-    ensures { result ≡ option_map start_failed_otherwise (only_serial (texts words.now)) }
-{
-    let serial = only_serial(words)?;
-    Some(Event::StartFailed {
-        serial,
-        fault: StartFault::Other,
-    })
-}
-
-/// Reads that a connection's place was given up.
-fn retired(words: &[&str]) -> Option<Event>
-    ensures { result ≡ option_map Retired (only_serial (texts words.now)) }
-{
-    let serial = only_serial(words)?;
-    Some(Event::Retired { serial })
-}
-
-/// Reads that a connection was dropped. The cause has no words, and is that the directory failed.
-fn dropped(words: &[&str]) -> Option<Event>
-    ensures { result ≡ option_map dropped_by_directory (only_serial (texts words.now)) }
-{
-    let serial = only_serial(words)?;
-    Some(Event::Dropped {
-        serial,
-        cause: DropCause::Directory,
-    })
-}
-
-/// A decision with a verdict alone.
-fn decision_with(alloc: Global, verdict: Verdict) -> Decision
-    ensures { result ≡ decision_with verdict }
-{
-    Decision {
-        found: Found::Default,
-        verdict,
-        settings: Settings::new(alloc),
-    }
-}
-
-/// Reads a serial, if it is the only word.
-fn only_serial(words: &[&str]) -> Option<u64>
-    ensures { result ≡ only_serial (texts words.now) }
-{
-    match words {
-        [word] => serial_in(word),
-        _ => None,
-    }
-}
-
-/// Reads a phase, if it is the only word.
-pub fn only_phase(words: &[&str]) -> Option<Phase>
-    ensures { result ≡ only_phase (texts words.now) }
-{
-    match words {
-        [word] => phase_in(word),
-        _ => None,
-    }
-}
-
-/// Reads a serial, if there is one word behind it.
-fn serial_and_word<'a>(words: &[&'a str]) -> Option<(u64, &'a str)>
-    ensures { option_map (λ (p : ℕ × Bor (List ℕ)). (p.0, p.1.now)) result
-        ≡ serial_and_word (texts words.now) }
-{
-    match words {
-        [serial, word] => Some((serial_in(serial)?, word)),
+        "opened" => {
+            let there = there_in(word)?;
+            Some(Event::Opened { serial, there })
+        }
+        "decided" => {
+            let decision = Decision {
+                found: Found::Default,
+                verdict: verdict_in(word)?,
+                settings: Settings::new(alloc),
+            };
+            Some(Event::Decided { serial, decision })
+        }
+        "ended" => {
+            let status = status_in(word)?;
+            Some(Event::Ended { serial, status })
+        }
         _ => None,
     }
 }
@@ -252,7 +151,7 @@ fn status_in(word: &str) -> Option<Status>
     Some(Status::Code(code as u8))
 }
 
-fn phase_in(word: &str) -> Option<Phase>
+pub(crate) fn phase_in(word: &str) -> Option<Phase>
     ensures { result ≡ phase_in word.now }
 {
     match word {

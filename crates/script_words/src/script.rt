@@ -2,11 +2,10 @@
 ghost use Rattle.std.specs.Prelude.{◌≡◌, ◌==◌, Some, IfOk, IfErr, option_map};
 ghost use Rattle.rule_lookup.specs.Peers.{given};
 ghost use Rattle.script_words.specs.Readings.{meaning, RefusesAs, RefusesLine, texts};
-ghost use Rattle.script_words.specs.Events.{alone, event_in, limits_in, only_phase};
-ghost use Rattle.script_words.specs.Scripts.{AddEvent, Ask, Open, Stop, To, events_under, command_of, command_in, command_named, words_of, option_in, peer_of, peer_in, peer_with, peer_with_both, choice_in, only_choice, reader_in, only_reader, question_in};
+ghost use Rattle.script_words.specs.Scripts.{bare_command, choice_in, command_in, command_named, command_of, command_with, limits_in, option_in, other_command, peer_in, peer_of, peer_with, peer_with_both, question_in, reader_in, words_of};
 ghost use Rattle.script_words.specs.declared.script.LineEnd.TheVariants.{OutOfMemory};
 
-use crate::event_words::{limit_in, only_phase, read_event};
+use crate::event_words::{limit_in, phase_in, read_event};
 use dir_calls::{Choice, Phase};
 use rule_lookup::{Peer, PeerFault, parse_address};
 use server_events::Event;
@@ -122,85 +121,61 @@ fn command_named<'a>(alloc: Global, name: &str, words: &[&'a str]) -> Result<Com
     ensures refused { IfErr result (RefusesAs (command_named name.now (texts words.now))) }
 {
     match name {
-        "install" => alone(Command::Install, words),
-        "begin" => alone(Command::Begin, words),
-        "to" => read_target(words),
-        "stop" => read_stop(words),
-        "ask" => read_ask(alloc, words),
-        "reader" => read_reader(words),
+        "ask" => Ok(Command::Ask(read_peer(alloc, words)?)),
         "askby" => read_question(alloc, words),
-        "events" => read_events(words),
-        "event" => read_addition(alloc, words),
-        "replay" => alone(Command::Replay, words),
-        "verdicts" => alone(Command::Verdicts, words),
-        _ => Err(LineEnd::Bad),
+        "event" => Ok(Command::Event(read_event(alloc, words)?)),
+        _ => other_command(name, words).ok_or(LineEnd::Bad),
     }
 }
 
-/// Reads the phase that an installation is to go on to.
-fn read_target<'a>(words: &[&str]) -> Result<Command<'a>, LineEnd>
-    ensures read { IfOk result (λ command.
-        option_map To (only_phase (texts words.now)) ≡ Some (meaning command)) }
-    ensures refused { IfErr result (RefusesAs (option_map To (only_phase (texts words.now)))) }
-{
-    let target = only_phase(words).ok_or(LineEnd::Bad)?;
-    Ok(Command::To(target))
-}
-
-fn read_stop<'a>(words: &[&str]) -> Result<Command<'a>, LineEnd>
-    ensures read { IfOk result (λ command.
-        option_map Stop (only_choice (texts words.now)) ≡ Some (meaning command)) }
-    ensures refused { IfErr result (RefusesAs (option_map Stop (only_choice (texts words.now)))) }
-{
-    let choice = only_choice(words).ok_or(LineEnd::Bad)?;
-    Ok(Command::Stop(choice))
-}
-
-fn read_ask<'a>(alloc: Global, words: &[&str]) -> Result<Command<'a>, LineEnd>
-    ensures read { IfOk result (λ command.
-        option_map Ask (peer_in (texts words.now)) ≡ Some (meaning command)) }
-    ensures refused { IfErr result (RefusesAs (option_map Ask (peer_in (texts words.now)))) }
-{
-    let peer = read_peer(alloc, words)?;
-    Ok(Command::Ask(peer))
-}
-
-/// Reads the name under which the rules file is to be kept.
-fn read_reader<'a>(words: &[&'a str]) -> Result<Command<'a>, LineEnd>
-    ensures read { IfOk result (λ command.
-        option_map Open (only_reader (texts words.now)) ≡ Some (meaning command)) }
-    ensures refused { IfErr result (RefusesAs (option_map Open (only_reader (texts words.now)))) }
-{
-    let name = only_reader(words).ok_or(LineEnd::Bad)?;
-    Ok(Command::Reader(name))
-}
-
-fn read_events<'a>(words: &[&str]) -> Result<Command<'a>, LineEnd>
-    ensures read { IfOk result (λ command.
-        option_map events_under (limits_in (texts words.now)) ≡ Some (meaning command)) }
-    ensures refused { IfErr result (RefusesAs (option_map events_under (limits_in (texts words.now)))) }
-{
-    let (limit, per_address) = read_limits(words).ok_or(LineEnd::Bad)?;
-    Ok(Command::Events { limit, per_address })
-}
-
-fn read_addition<'a>(alloc: Global, words: &[&str]) -> Result<Command<'a>, LineEnd>
-    ensures read { IfOk result (λ command.
-        option_map AddEvent (event_in (texts words.now)) ≡ Some (meaning command)) }
-    ensures refused { IfErr result (RefusesAs (option_map AddEvent (event_in (texts words.now)))) }
-{
-    let event = read_event(alloc, words)?;
-    Ok(Command::Event(event))
-}
-
-/// Reads a choice, if it is the only word.
-fn only_choice(words: &[&str]) -> Option<Choice>
-    ensures { result ≡ only_choice (texts words.now) }
+/// Reads a command that names no peer and no event.
+fn other_command<'a>(name: &str, words: &[&'a str]) -> Option<Command<'a>>
+    ensures { option_map meaning result ≡ other_command name.now (texts words.now) }
 {
     match words {
-        [word] => choice_in(word),
+        [] => bare_command(name),
+        [word] => command_with(name, word),
+        [limit, per_address] => match name {
+            "events" => limits_in(limit, per_address),
+            _ => None,
+        },
         _ => None,
     }
+}
+
+/// The command with a name alone.
+fn bare_command<'a>(name: &str) -> Option<Command<'a>>
+    ensures { option_map meaning result ≡ bare_command name.now }
+{
+    match name {
+        "install" => Some(Command::Install),
+        "begin" => Some(Command::Begin),
+        "replay" => Some(Command::Replay),
+        "verdicts" => Some(Command::Verdicts),
+        _ => None,
+    }
+}
+
+/// Reads a command with one word. The limit per address is the limit if it is left out.
+fn command_with<'a>(name: &str, word: &'a str) -> Option<Command<'a>>
+    ensures { option_map meaning result ≡ command_with name.now word.now }
+{
+    match name {
+        "to" => Some(Command::To(phase_in(word)?)),
+        "stop" => Some(Command::Stop(choice_in(word)?)),
+        "reader" => Some(Command::Reader(reader_in(word)?)),
+        "events" => limits_in(word, word),
+        _ => None,
+    }
+}
+
+/// Reads an empty list of events under these limits.
+fn limits_in<'a>(limit: &str, per_address: &str) -> Option<Command<'a>>
+    ensures { option_map meaning result ≡ limits_in limit.now per_address.now }
+{
+    let limit = limit_in(limit)?;
+    let per_address = limit_in(per_address)?;
+    Some(Command::Events { limit, per_address })
 }
 
 fn choice_in(word: &str) -> Option<Choice>
@@ -210,16 +185,6 @@ fn choice_in(word: &str) -> Option<Choice>
         "kept" => Some(Choice::Kept),
         "empty" => Some(Choice::Empty),
         "junk" => Some(Choice::Junk),
-        _ => None,
-    }
-}
-
-/// Reads a reader's name, if it is the only word.
-fn only_reader<'a>(words: &[&'a str]) -> Option<&'a str>
-    ensures { given result ≡ only_reader (texts words.now) }
-{
-    match words {
-        [word] => reader_in(word),
         _ => None,
     }
 }
@@ -241,33 +206,6 @@ fn read_question<'a>(alloc: Global, words: &[&'a str]) -> Result<Command<'a>, Li
     };
     let name = reader_in(name).ok_or(LineEnd::Bad)?;
     Ok(Command::AskBy(name, read_peer(alloc, words)?))
-}
-
-/// Reads a limit, and a limit per address. That is the same if it is left out.
-fn read_limits(words: &[&str]) -> Option<(u64, u64)>
-    ensures { result ≡ limits_in (texts words.now) }
-{
-    match words {
-        [limit] => {
-            let limit = limit_in(limit)?;
-            Some((limit, limit))
-        }
-        [limit, per_address] => Some((limit_in(limit)?, limit_in(per_address)?)),
-        _ => None,
-    }
-}
-
-/// A command that has no more words.
-fn alone<'a>(command: Command<'a>, words: &[&str]) -> Result<Command<'a>, LineEnd>
-    ensures read { IfOk result (λ read.
-        alone (meaning command.entry) (texts words.now) ≡ Some (meaning read)) }
-    ensures refused { IfErr result (RefusesAs (alone (meaning command.entry) (texts words.now))) }
-{
-    if words.is_empty() {
-        Ok(command)
-    } else {
-        Err(LineEnd::Bad)
-    }
 }
 
 /// Reads the peer behind `ask`.

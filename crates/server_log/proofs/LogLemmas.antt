@@ -7,7 +7,8 @@ use Rattle.std.specs.Result.{result_and}
 use Rattle.std.specs.declared.option.Option.{Option}
 use Rattle.std.specs.Io.KnownBytes.{Appends}
 use Rattle.byte_text.specs.Outcomes.{AppendsLine}
-use Rattle.server_log.specs.Logs.{Adds, AreLeft, IsCut, IsLater, Logged, Takes, TellsInOrder}
+use Rattle.server_log.specs.Logs.{Adds, AreLeft, Holds, IsCut, IsLater, Logged, Takes, TellsInOrder}
+use Rattle.server_log.specs.declared.lines.Lines.{Lines}
 use Rattle.server_log.specs.declared.fault.LogFault.{LogFault}
 use Rattle.server_log.specs.declared.fault.LogFault.TheVariants.{OutOfMemory, OutOfOrder, WriteFault}
 
@@ -26,7 +27,7 @@ both_left (x ∷ xs) ys some more (inr left) are = inr (both_left xs ys some mor
 
 -- ---- lines that are added
 
-pub adds_line : {E : Type 0} (line old new : List ℕ) (done : Result (Unit {0}) E) → AppendsLine line old new done → Adds (line ∷ []) old new done
+adds_line : {E : Type 0} (line old new : List ℕ) (done : Result (Unit {0}) E) → AppendsLine line old new done → Adds (line ∷ []) old new done
 adds_line line old new (Ok done) is = is ∙ ap (λ (l : List ℕ). old ++ l) (sym (append-nil line))
 adds_line line old new (Err e) is = ([], record { are = inr refl; fewer = omega arith }, is ∙ sym (append-nil old))
 
@@ -34,7 +35,7 @@ joined : (xs ys : List (List ℕ)) (old mid new : List ℕ) → mid ≡ old ++ c
 joined xs ys old mid new first second =
     second ∙ ap (λ (l : List ℕ). l ++ concat ys) first ∙ append_assoc old (concat xs) (concat ys) ∙ ap (λ (l : List ℕ). old ++ l) (sym (concat-append xs ys))
 
-pub adds_both : {E : Type 0} (xs ys : List (List ℕ)) (old mid new : List ℕ) (first second : Result (Unit {0}) E) → Adds xs old mid first → Adds ys mid new second
+adds_both : {E : Type 0} (xs ys : List (List ℕ)) (old mid new : List ℕ) (first second : Result (Unit {0}) E) → Adds xs old mid first → Adds ys mid new second
     → Adds (xs ++ ys) old new (result_and first second)
 adds_both xs ys old mid new (Ok done) (Ok done') one two = joined xs ys old mid new one two
 adds_both xs ys old mid new (Ok done) (Err e) one (more, some, two) = (
@@ -62,19 +63,15 @@ adds_both xs ys old mid new (Err e) (Err e') (more, some, one) (others, some', t
   joined more others old mid new one two,
 )
 
-pub adds_both_is : {E : Type 0} (xs ys : List (List ℕ)) (old mid new : List ℕ) (first second both : Result (Unit {0}) E) → Adds xs old mid first
-    → Adds ys mid new second → both ≡ result_and first second → Adds (xs ++ ys) old new both
-adds_both_is xs ys old mid new first second both one two is =
-    subst (λ (r : Result _ _). Adds (xs ++ ys) old new r) (sym is) (adds_both xs ys old mid new first second one two)
+-- a line more, where it is told
+pub adds_told : {E : Type 0} (lines told : List (List ℕ)) (line old mid new : List ℕ) (first second both : Result (Unit {0}) E) → Adds lines old mid first
+    → AppendsLine line mid new second → both ≡ result_and first second → told ≡ line ∷ [] → Adds (lines ++ told) old new both
+adds_told lines told line old mid new first second both one two is same =
+    rw (is, same) (adds_both lines (line ∷ []) old mid new first second one (adds_line line mid new second two))
 
--- those of an event, whose bytes are none at first
-pub adds_first : {E : Type 0} (xs : List (List ℕ)) (start new : List ℕ) (first : Result (Unit {0}) E) → start ≡ [] → Adds xs start new first → Adds xs [] new first
-adds_first xs start new first none adds = subst (λ (l : List ℕ). Adds xs l new first) none adds
-
-pub adds_two : {E : Type 0} (xs ys : List (List ℕ)) (start mid new : List ℕ) (first second both : Result (Unit {0}) E) → start ≡ [] → Adds xs start mid first
-    → Adds ys mid new second → both ≡ result_and first second → Adds (xs ++ ys) [] new both
-adds_two xs ys start mid new first second both none one two is =
-    subst (λ (r : Result _ _). Adds (xs ++ ys) [] new r) (sym is) (adds_both xs ys [] mid new first second (adds_first xs start mid first none one) two)
+-- lines as they are told
+pub holds_as : {held : Lines} (lines told same : List (List ℕ)) → told ≡ same → Holds (lines ++ told) held → Holds (lines ++ same) held
+holds_as {held} lines told same is holds = subst (λ (l : List (List ℕ)). Holds (lines ++ l) held) is holds
 
 -- ---- bytes that are written
 

@@ -2,3 +2,4 @@
 pub mod Causes
 pub mod Lines
 pub mod Logs
+pub mod Pieces

@@ -71,7 +71,7 @@ listening_text ip port = codes "tcpserver: listening on " ++ ipv4_text ip ++ cod
 abbrev pub retired_text : ℕ → List ℕ
 retired_text serial = codes "tcpserver: retired " ++ decimal serial ++ codes "\n"
 
--- the words for a cause; a denied connection has no words, and no line
+-- the words for a cause; a denied connection has no words
 abbrev pub cause_text : DropCause → Option (List ℕ)
 cause_text Denied = None
 cause_text Banner = Some (codes "banner fault")
@@ -81,12 +81,8 @@ cause_text Damaged = Some (codes "rules damaged")
 cause_text Memory = Some (codes "out of memory")
 cause_text NoThread = Some (codes "no thread")
 
-abbrev pub drop_by : ℕ → Option (List ℕ) → List ℕ
-drop_by serial None = []
-drop_by serial (Some cause) = codes "tcpserver: drop " ++ decimal serial ++ codes " " ++ cause ++ codes "\n"
-
-abbrev pub drop_text : ℕ → DropCause → List ℕ
-drop_text serial cause = drop_by serial (cause_text cause)
+abbrev pub drop_text : ℕ → List ℕ → List ℕ
+drop_text serial words = codes "tcpserver: drop " ++ decimal serial ++ codes " " ++ words ++ codes "\n"
 
 -- the words for a fault of a start; without a fault the child gave no pipe ends
 abbrev pub fault_text : Option StartFault → List ℕ
@@ -100,7 +96,7 @@ abbrev pub start_text : ℕ → Option StartFault → List ℕ
 start_text serial fault = codes "tcpserver: start " ++ decimal serial ++ codes " " ++ fault_text fault ++ codes "\n"
 
 abbrev pub full_text : List ℕ → List ℕ
-full_text ip = codes "tcpserver: drop " ++ ipv4_text ip ++ codes " address full\n"
+full_text ip = codes "tcpserver: drop " ++ ipv4_text ip ++ codes " address full" ++ codes "\n"
 
 -- ---- which lines a level has
 
@@ -124,23 +120,36 @@ abbrev pub person : Voice → Level → List ℕ → List (List ℕ)
 person Plain level line = []
 person Helpful level line = progress level line
 
--- the line of a cause
+-- the line of a connection that was given up, if its cause has words
+abbrev pub drop_lines : Level → ℕ → Option (List ℕ) → List (List ℕ)
+drop_lines level serial None = []
+drop_lines level serial (Some words) = error level (drop_text serial words)
+
+-- a line that tells a cause, where causes are told
+abbrev pub with_cause : Detail → List ℕ → List (List ℕ)
+with_cause Line line = []
+with_cause Cause line = line ∷ []
+with_cause Hint line = line ∷ []
+
+-- the same of a cause that is told to a person alone
+abbrev pub with_hint : Detail → List ℕ → List (List ℕ)
+with_hint Line line = []
+with_hint Cause line = []
+with_hint Hint line = line ∷ []
+
+-- the line of a cause, if there is one, where it is told
 abbrev pub cause_line : CauseText → List ℕ
 cause_line cause = os_cause_text (codes "tcpserver") cause.what cause.why
 
--- the same, where causes are told
-abbrev pub cause_lines : Detail → Option CauseText → List (List ℕ)
-cause_lines detail None = []
-cause_lines Line (Some cause) = []
-cause_lines Cause (Some cause) = cause_line cause ∷ []
-cause_lines Hint (Some cause) = cause_line cause ∷ []
+abbrev pub of_cause : (List ℕ → List (List ℕ)) → Option CauseText → List (List ℕ)
+of_cause told None = []
+of_cause told (Some cause) = told (cause_line cause)
 
--- the same of a cause that is told to a person alone
+abbrev pub cause_lines : Detail → Option CauseText → List (List ℕ)
+cause_lines detail cause = of_cause (λ line. with_cause detail line) cause
+
 abbrev pub hint_lines : Detail → Option CauseText → List (List ℕ)
-hint_lines detail None = []
-hint_lines Line (Some cause) = []
-hint_lines Cause (Some cause) = []
-hint_lines Hint (Some cause) = cause_line cause ∷ []
+hint_lines detail cause = of_cause (λ line. with_hint detail line) cause
 
 -- which signal ended a child, and which process runs a program, where that is known: for a person
 abbrev pub signal_lines : Level → Voice → ℕ → Option ℕ → List (List ℕ)
@@ -151,23 +160,26 @@ abbrev pub runs_lines : Level → Voice → ℕ → Option ℕ → List (List �
 runs_lines level voice serial None = []
 runs_lines level voice serial (Some process) = person voice level (runs_text serial process)
 
--- The lines of each event. The status stands in front of the line of an admission, and behind the line of any other
--- event that changes how many are alive. A cause stands right behind its fault. A denied connection has an empty text.
--- A person is told at each level but the quiet one why there is no rules file, though the verdict has its line under
+-- The lines of the end of a connection. A cause stands right behind its fault.
+abbrev pub end_lines : Level → Voice → Told → List (List ℕ)
+end_lines level voice (Told.StartFailed serial fault cause) =
+    error level (start_text serial (Some fault)) ++ cause_lines (detail_of voice level) cause
+end_lines level voice (Told.Ended serial status signal) =
+    progress level (end_text serial status) ++ signal_lines level voice serial signal
+end_lines level voice (Told.Retired serial) = error level (retired_text serial)
+end_lines level voice (Told.Dropped serial cause file why) =
+    drop_lines level serial (cause_text cause) ++ hint_lines (detail_of voice level) file ++ cause_lines (detail_of voice level) why
+end_lines level voice told = []
+
+-- The lines of each event. The status stands in front of the line of an admission, and behind the lines of an end. A
+-- person is told at each level but the quiet one why there is no rules file, though the verdict has its line under
 -- `All` alone.
 abbrev pub event_lines : Level → Voice → (limit live : ℕ) → Told → List (List ℕ)
 event_lines level voice limit live (Told.Admitted serial ip) = status_lines level limit live ++ progress level (pid_line serial ip)
 event_lines level voice limit live (Told.Decided serial verdict local peer file) =
     progress level (verdict_text verdict serial local.now peer.now) ++ hint_lines (detail_of voice level) file
 event_lines level voice limit live (Told.Started serial process) = runs_lines level voice serial process
-event_lines level voice limit live (Told.StartFailed serial fault cause) =
-    (error level (start_text serial (Some fault)) ++ cause_lines (detail_of voice level) cause) ++ status_lines level limit live
-event_lines level voice limit live (Told.Ended serial status signal) =
-    (progress level (end_text serial status) ++ signal_lines level voice serial signal) ++ status_lines level limit live
-event_lines level voice limit live (Told.Retired serial) = error level (retired_text serial) ++ status_lines level limit live
-event_lines level voice limit live (Told.Dropped serial cause file why) =
-    (error level (drop_text serial cause) ++ (hint_lines (detail_of voice level) file ++ cause_lines (detail_of voice level) why))
-    ++ status_lines level limit live
+event_lines level voice limit live told = end_lines level voice told ++ status_lines level limit live
 
 -- what else a log tells: a child that gave no pipe ends, and an address that is full
 abbrev pub no_ends_lines : Level → ℕ → List (List ℕ)

@@ -7,19 +7,20 @@ use Rattle.server_words.specs.declared.level.Level.{Level}
 use Rattle.fault_hints.specs.declared.voice.Voice.{Voice}
 use Rattle.server_log.specs.declared.fault.LogFault.{LogFault}
 use Rattle.server_log.specs.declared.fault.LogFault.TheVariants.{OutOfMemory, OutOfOrder, WriteFault}
+use Rattle.server_log.specs.declared.lines.Lines.{Lines}
 use Rattle.server_log.specs.declared.log.Log.{Log}
 
 abbrev pub writer_of : {W : Type 0} → Log W → W
 writer_of log = log.writer
 
 abbrev pub level_of : {W : Type 0} → Log W → Level
-level_of log = log.level
+level_of log = log.settings.level
 
 abbrev pub voice_of : {W : Type 0} → Log W → Voice
-voice_of log = log.voice
+voice_of log = log.settings.voice
 
 abbrev pub limit_of : {W : Type 0} → Log W → ℕ
-limit_of log = log.limit
+limit_of log = log.settings.limit
 
 -- the position of the last event that it was told
 abbrev pub last_of : {W : Type 0} → Log W → ℕ
@@ -64,6 +65,10 @@ Logged lines old new (Err WriteFault) =
 abbrev pub Adds : {E : Type 0} → List (List ℕ) → (old new : List ℕ) → Result (Unit {0}) E → Type 0
 Adds lines old new (Ok done) = new ≡ old ++ concat lines
 Adds lines old new (Err e) = (left : List (List ℕ)) × SomeLeft lines left × (new ≡ old ++ concat left)
+
+-- these lines stand here, or those of them that found memory
+pub record Holds (lines : List (List ℕ)) (held : Lines) : Type 0 where
+  pub adds : Adds lines [] held.bytes.items held.added
 
 -- the same of bytes that are written
 abbrev pub Takes : List ℕ → (old new : Option (List ℕ)) → Result (Unit {0}) LogFault → Type 0

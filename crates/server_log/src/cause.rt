@@ -6,8 +6,8 @@ use std::marker::Model;
 /// What the system was asked for, as a program or a path, and its words for its error.
 #[derive(Drop)]
 pub struct Cause<'a> {
-    what: &'a [u8],
-    why: &'a str,
+    pub(crate) what: &'a [u8],
+    pub(crate) why: &'a str,
 }
 
 impl<'a> Model for Cause<'a> {
@@ -24,19 +24,5 @@ impl<'a> Cause<'a> {
         ensures { result ≡ record { what = what.now; why = why.now } }
     {
         Cause { what, why }
-    }
-
-    /// What the system was asked for.
-    pub fn what(&self) -> &'a [u8]
-        ensures { result.now ≡ self.now.what }
-    {
-        self.what
-    }
-
-    /// The system's words for its error.
-    pub fn why(&self) -> &'a str
-        ensures { result.now ≡ self.now.why }
-    {
-        self.why
     }
 }

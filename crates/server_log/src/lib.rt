@@ -4,17 +4,18 @@
 //! order, or answers what was left out. An event that is not later than the last is refused (`order`).
 //! `Write::contents` says what a writer holds; of standard error no clause says more. It is tested only when the server
 //! tells an event, and that it passes over an error of the log. It is also tested that an event's lines go by one write
-//! if the writer takes them.
+//! if the writer takes them. `append_line`, by which a line is appended whole or not at all, also serves `rulesim`.
 #![tactic(auto)]
 
 pub mod cause;
 pub mod fault;
-mod fields;
-pub mod lines;
+mod lines;
 pub mod log;
+pub mod pieces;
 pub mod told;
 
 pub use cause::Cause;
 pub use fault::LogFault;
 pub use log::Log;
+pub use pieces::{Piece, append_line, push_pieces};
 pub use told::Told;

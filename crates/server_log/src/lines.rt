@@ -1,443 +1,305 @@
-//! The lines of the log, and those of each event at each level. After an `Err` there was no memory for a line, and it
-//! was not added.
-ghost use Rattle.std.specs.Prelude.{◌≡◌, Some, ◌++◌, List, ℕ, codes, decimal};
+//! The lines of the log, and those of each event at each level.
+ghost use Rattle.std.specs.Prelude.{◌≡◌, ◌++◌, List, [], ◌∷◌, ℕ, if◌then◌else◌};
 ghost use Rattle.rule_lookup.specs.Peers.{given};
-ghost use Rattle.byte_text.specs.Outcomes.{AppendsLine, AppendsPart};
-ghost use Rattle.fault_hints.specs.Voices.{detail_of};
-ghost use Rattle.server_log.specs.Lines.{cause_line, cause_lines, cause_text, drop_text, end_text, error, event_lines, fault_text, full_text, hint_lines, listening_text, person, pid_line, progress, retired_text, runs_lines, runs_text, signal_lines, signal_text, start_text, status_line, status_lines, verdict_text, verdict_word};
-ghost use Rattle.server_log.specs.Logs.{Adds};
+ghost use Rattle.server_log.specs.Lines.{cause_text, drop_lines, end_lines, end_text, event_lines, fault_text, of_cause, progress, runs_lines, signal_lines, start_text, status_line, status_lines, status_text, verdict_text, verdict_word};
+ghost use Rattle.server_log.specs.Logs.{Holds};
+ghost use Rattle.server_log.specs.Pieces.{line_of, piece_text, told_lines};
 
 use crate::cause::Cause;
-use crate::fields::{push_local, push_remote, push_status};
+use crate::pieces::Piece::{Address, Field, Name, Number, Text};
+use crate::pieces::{Piece, append_line};
 use crate::told::Told;
-use byte_text::{append_cause, push_address, push_number, push_text, whole_or_none};
 use child_jobs::{DropCause, Local, StartFault, Status};
 use fault_hints::{Detail, Voice};
 use rule_lookup::{Peer, Verdict};
 use server_words::Level;
-use std::alloc::AllocError;
+use std::alloc::{AllocError, Global};
 
-/// Adds the lines of an event, after which `live` connections are alive.
-pub(crate) fn add_event(
-    level: Level,
-    voice: Voice,
-    limit: u64,
-    live: u64,
-    told: Told<'_>,
-    out: &mut Vec<u8>,
-) -> Result<(), AllocError>
-    ensures { Adds (event_lines level voice limit live told.entry) out.old.items out.new.items result }
-{
-    let detail = voice.detail(level);
-    match told {
-        Told::Admitted { serial, ip } => add_admitted(level, limit, live, serial, ip, out),
-        Told::Decided {
-            serial,
-            verdict,
-            local,
-            peer,
-            file,
-        } => {
-            let decided = add_verdict(level, verdict, serial, local, peer, out);
-            add_hint_behind(detail, file, decided, out)
+/// What decides which lines are told, and the server's limit of connections.
+#[derive(Clone, Copy)]
+pub(crate) struct Settings {
+    pub level: Level,
+    pub voice: Voice,
+    pub limit: u64,
+}
+
+/// Where a line is told.
+#[derive(Clone, Copy)]
+pub(crate) enum Shown {
+    /// It tells how connections go: under `All` alone.
+    Progress,
+    /// It tells a fault: under `All` and `Errors`.
+    Fault,
+    /// It tells a person how connections go.
+    Person,
+    /// It tells a cause: where causes are told.
+    Cause,
+    /// It tells a cause to a person alone.
+    Hint,
+}
+
+impl Shown {
+    fn is_told(self, to: Settings) -> bool
+        ensures { (line : List ℕ) → told_lines self to.level to.voice line
+            ≡ (if result then line ∷ [] else []) }
+    {
+        match self {
+            Shown::Progress => matches!(to.level, Level::All),
+            Shown::Fault => !matches!(to.level, Level::Quiet),
+            Shown::Person => matches!((to.level, to.voice), (Level::All, Voice::Helpful)),
+            Shown::Cause => !matches!(to.voice.detail(to.level), Detail::Line),
+            Shown::Hint => matches!(to.voice.detail(to.level), Detail::Hint),
         }
-        Told::Started { serial, process } => add_runs(level, voice, serial, process, out),
-        Told::StartFailed {
-            serial,
-            fault,
-            cause,
-        } => {
-            let failed = add_refused(level, detail, serial, fault, cause, out);
-            add_status_behind(level, limit, live, failed, out)
+    }
+}
+
+/// The lines of an event, as far as they found memory.
+#[derive(Drop)]
+pub(crate) struct Lines {
+    pub bytes: Vec<u8>,
+    // whether each line found memory
+    pub added: Result<(), AllocError>,
+}
+
+impl Lines {
+    /// No lines, which take no memory.
+    pub(crate) fn new(alloc: Global) -> Lines {
+        Lines {
+            bytes: Vec::new(alloc),
+            added: Ok(()),
         }
-        Told::Ended {
-            serial,
+    }
+
+    /// Takes all lines away.
+    pub(crate) fn clear(&mut self)
+        ensures { Holds [] self.new }
+    {
+        self.bytes.clear();
+        self.added = Ok(());
+    }
+
+    /// Adds a line of these pieces, where it is told.
+    pub(crate) fn add(&mut self, to: Settings, shown: Shown, pieces: &[Piece<'_>])
+        ensures { (lines : List (List ℕ)) → Holds lines self.old
+            → Holds (lines ++ told_lines shown to.level to.voice (line_of pieces.now)) self.new }
+    {
+        if shown.is_told(to) {
+            let line = append_line(&mut self.bytes, pieces);
+            self.added = self.added.and(line);
+        }
+    }
+
+    /// Adds the lines of an event, after which `live` connections are alive. There are no lines before.
+    pub(crate) fn add_event(&mut self, to: Settings, live: u64, told: Told<'_>)
+        ensures { Holds [] self.old
+            → Holds (event_lines to.level to.voice to.limit live told.entry) self.new }
+    {
+        match told {
+            Told::Admitted { serial, ip } => {
+                self.add_status(to, live);
+                let pid = [
+                    Text("tcpserver: pid "),
+                    Number(serial),
+                    Text(" from "),
+                    Address(ip),
+                ];
+                self.add(to, Shown::Progress, &pid);
+            }
+            Told::Decided {
+                serial,
+                verdict,
+                local,
+                peer,
+                file,
+            } => {
+                self.add_verdict(to, verdict, serial, local, peer);
+                self.add_cause(to, Shown::Hint, file);
+            }
+            Told::Started { serial, process } => self.add_runs(to, serial, process),
+            end => {
+                self.add_end(to, end);
+                self.add_status(to, live);
+            }
+        }
+    }
+
+    /// Adds the lines of the end of a connection; nothing if it goes on.
+    fn add_end(&mut self, to: Settings, told: Told<'_>)
+        ensures { Holds [] self.old → Holds (end_lines to.level to.voice told.entry) self.new }
+    {
+        match told {
+            Told::StartFailed {
+                serial,
+                fault,
+                cause,
+            } => {
+                self.add(to, Shown::Fault, &start_line(serial, Some(fault)));
+                self.add_cause(to, Shown::Cause, cause);
+            }
+            Told::Ended {
+                serial,
+                status,
+                signal,
+            } => self.add_exit(to, serial, status, signal),
+            Told::Retired { serial } => {
+                let retired = [Text("tcpserver: retired "), Number(serial)];
+                self.add(to, Shown::Fault, &retired);
+            }
+            Told::Dropped {
+                serial,
+                cause,
+                file,
+                why,
+            } => {
+                self.add_drop(to, serial, cause);
+                self.add_cause(to, Shown::Hint, file);
+                self.add_cause(to, Shown::Cause, why);
+            }
+            Told::Admitted { .. } | Told::Decided { .. } | Told::Started { .. } => {}
+        }
+    }
+
+    /// Adds how many connections are alive, and how many may be.
+    fn add_status(&mut self, to: Settings, live: u64)
+        ensures { (lines : List (List ℕ)) → Holds lines self.old
+            → Holds (lines ++ status_lines to.level to.limit live) self.new }
+    {
+        self.add(to, Shown::Progress, &status_line(live, to.limit));
+    }
+
+    /// Adds what was decided of a connection, with its two ends.
+    fn add_verdict<'a>(
+        &mut self,
+        to: Settings,
+        verdict: Verdict,
+        serial: u64,
+        local: &'a Local,
+        peer: &'a Peer,
+    )
+        ensures { (lines : List (List ℕ)) → Holds lines self.old
+            → Holds (lines ++ progress to.level (verdict_text verdict serial local.now peer.now)) self.new }
+    {
+        let pieces = [
+            Text("tcpserver: "),
+            Text(verdict_word(verdict)),
+            Number(serial),
+            Text(" "),
+            Name(local.host()),
+            Text(":"),
+            Address(local.ip()),
+            Text(":"),
+            Number(u64::from(local.port())),
+            Text(" "),
+            Name(peer.host()),
+            Text(":"),
+            Address(peer.ip()),
+            Text(":"),
+            Name(peer.info()),
+            Text(":"),
+            Number(u64::from(peer.port())),
+        ];
+        self.add(to, Shown::Progress, &pieces);
+    }
+
+    /// Adds which process runs a connection's program, if that is known.
+    fn add_runs(&mut self, to: Settings, serial: u64, process: Option<u32>)
+        ensures { (lines : List (List ℕ)) → Holds lines self.old
+            → Holds (lines ++ runs_lines to.level to.voice serial process) self.new }
+    {
+        if let Some(process) = process {
+            let process = Number(u64::from(process));
+            let pieces = [
+                Text("tcpserver: runs "),
+                Number(serial),
+                Text(" process "),
+                process,
+            ];
+            self.add(to, Shown::Person, &pieces);
+        }
+    }
+
+    /// Adds how a connection's child ended, and by which signal, if one is known.
+    fn add_exit(&mut self, to: Settings, serial: u64, status: Status, signal: Option<u32>)
+        ensures { (lines : List (List ℕ)) → Holds lines self.old
+            → Holds ((lines ++ progress to.level (end_text serial status))
+            ++ signal_lines to.level to.voice serial signal) self.new }
+    {
+        let status = status_piece(status);
+        let pieces = [
+            Text("tcpserver: end "),
+            Number(serial),
+            Text(" status "),
             status,
-            signal,
-        } => {
-            let end = add_ended(level, voice, serial, status, signal, out);
-            add_status_behind(level, limit, live, end, out)
-        }
-        Told::Retired { serial } => {
-            let retired = add_retired(level, serial, out);
-            add_status_behind(level, limit, live, retired, out)
-        }
-        Told::Dropped {
-            serial,
-            cause,
-            file,
-            why,
-        } => {
-            let dropped = add_given_up(level, detail, serial, cause, file, why, out);
-            add_status_behind(level, limit, live, dropped, out)
+        ];
+        self.add(to, Shown::Progress, &pieces);
+        if let Some(signal) = signal {
+            let signal = Number(u64::from(signal));
+            let pieces = [
+                Text("tcpserver: cause: "),
+                Number(serial),
+                Text(": signal "),
+                signal,
+            ];
+            self.add(to, Shown::Person, &pieces);
         }
     }
-}
 
-/// Adds the line of a cause that is told to a person alone behind lines that were added.
-fn add_hint_behind(
-    detail: Detail,
-    cause: Option<Cause<'_>>,
-    added: Result<(), AllocError>,
-    out: &mut Vec<u8>,
-) -> Result<(), AllocError>
-    ensures { (lines : List (List ℕ)) (first : List ℕ) → Adds lines first out.old.items added
-        → Adds (lines ++ hint_lines detail cause.entry) first out.new.items result }
-{
-    let hint = add_hint(detail, cause, out);
-    added.and(hint)
-}
+    /// Adds why a connection was dropped; nothing if a rule denied it.
+    fn add_drop(&mut self, to: Settings, serial: u64, cause: DropCause)
+        ensures { (lines : List (List ℕ)) → Holds lines self.old
+            → Holds (lines ++ drop_lines to.level serial (cause_text cause)) self.new }
+    {
+        if let Some(words) = cause_words(cause) {
+            let pieces = [
+                Text("tcpserver: drop "),
+                Number(serial),
+                Text(" "),
+                Text(words),
+            ];
+            self.add(to, Shown::Fault, &pieces);
+        }
+    }
 
-/// Adds the status line behind lines that were added.
-fn add_status_behind(
-    level: Level,
-    limit: u64,
-    live: u64,
-    added: Result<(), AllocError>,
-    out: &mut Vec<u8>,
-) -> Result<(), AllocError>
-    ensures { (lines : List (List ℕ)) (first : List ℕ) → Adds lines first out.old.items added
-        → Adds (lines ++ status_lines level limit live) first out.new.items result }
-{
-    let status = add_status(level, limit, live, out);
-    added.and(status)
-}
-
-/// Adds the lines of a connection that was let in.
-fn add_admitted(
-    level: Level,
-    limit: u64,
-    live: u64,
-    serial: u64,
-    ip: [u8; 4],
-    out: &mut Vec<u8>,
-) -> Result<(), AllocError>
-    ensures { Adds (status_lines level limit live ++ progress level (pid_line serial ip))
-        out.old.items out.new.items result }
-{
-    let status = add_status(level, limit, live, out);
-    let pid = add_pid(level, serial, ip, out);
-    status.and(pid)
-}
-
-/// Adds the status line, if the level has it.
-pub(crate) fn add_status(
-    level: Level,
-    limit: u64,
-    live: u64,
-    out: &mut Vec<u8>,
-) -> Result<(), AllocError>
-    ensures { Adds (progress level (status_line live limit)) out.old.items out.new.items result }
-{
-    match level {
-        Level::All => status(live, limit, out),
-        Level::Errors | Level::Quiet => Ok(()),
+    /// Adds a cause, if there is one.
+    fn add_cause(&mut self, to: Settings, shown: Shown, cause: Option<Cause<'_>>)
+        ensures { (lines : List (List ℕ)) → Holds lines self.old
+            → Holds (lines ++ of_cause (λ line. told_lines shown to.level to.voice line) cause.entry) self.new }
+    {
+        if let Some(Cause { what, why }) = cause {
+            let pieces = [
+                Text("tcpserver: cause: "),
+                Field(what),
+                Text(": "),
+                Text(why),
+            ];
+            self.add(to, shown, &pieces);
+        }
     }
 }
 
-/// Adds the line of a connection that was let in.
-fn add_pid(level: Level, serial: u64, ip: [u8; 4], out: &mut Vec<u8>) -> Result<(), AllocError>
-    ensures { Adds (progress level (pid_line serial ip)) out.old.items out.new.items result }
+/// The line of how many connections are alive, and how many may be.
+pub(crate) fn status_line(live: u64, limit: u64) -> [Piece<'static>; 4]
+    ensures { line_of result ≡ status_line live limit }
 {
-    match level {
-        Level::All => pid_from(serial, ip, out),
-        Level::Errors | Level::Quiet => Ok(()),
-    }
+    [
+        Text("tcpserver: status: "),
+        Number(live),
+        Text("/"),
+        Number(limit),
+    ]
 }
 
-fn add_verdict(
-    level: Level,
-    verdict: Verdict,
-    serial: u64,
-    local: &Local,
-    peer: &Peer,
-    out: &mut Vec<u8>,
-) -> Result<(), AllocError>
-    ensures { Adds (progress level (verdict_text verdict serial local.now peer.now))
-        out.old.items out.new.items result }
+/// The line of why a connection's child was not started. `None` is for a child that was started and gave no pipe ends.
+pub(crate) fn start_line(serial: u64, fault: Option<StartFault>) -> [Piece<'static>; 4]
+    ensures { line_of result ≡ start_text serial fault }
 {
-    match level {
-        Level::All => verdict_line(verdict, serial, local, peer, out),
-        Level::Errors | Level::Quiet => Ok(()),
-    }
-}
-
-fn add_end(level: Level, serial: u64, ended: Status, out: &mut Vec<u8>) -> Result<(), AllocError>
-    ensures { Adds (progress level (end_text serial ended)) out.old.items out.new.items result }
-{
-    match level {
-        Level::All => end_line(serial, ended, out),
-        Level::Errors | Level::Quiet => Ok(()),
-    }
-}
-
-/// Adds the line of a child that ended, and behind it that of the signal that ended it, if one is known.
-fn add_ended(
-    level: Level,
-    voice: Voice,
-    serial: u64,
-    ended: Status,
-    signal: Option<u32>,
-    out: &mut Vec<u8>,
-) -> Result<(), AllocError>
-    ensures { Adds (progress level (end_text serial ended) ++ signal_lines level voice serial signal)
-        out.old.items out.new.items result }
-{
-    let end = add_end(level, serial, ended, out);
-    let signal = add_signal(level, voice, serial, signal, out);
-    end.and(signal)
-}
-
-/// Adds the line of the signal that ended a child, for a person.
-fn add_signal(
-    level: Level,
-    voice: Voice,
-    serial: u64,
-    signal: Option<u32>,
-    out: &mut Vec<u8>,
-) -> Result<(), AllocError>
-    ensures { Adds (signal_lines level voice serial signal) out.old.items out.new.items result }
-{
-    match (level, voice, signal) {
-        (Level::All, Voice::Helpful, Some(signal)) => signal_line(serial, signal, out),
-        _ => Ok(()),
-    }
-}
-
-/// Adds the line of the process that runs a connection's program, for a person.
-fn add_runs(
-    level: Level,
-    voice: Voice,
-    serial: u64,
-    process: Option<u32>,
-    out: &mut Vec<u8>,
-) -> Result<(), AllocError>
-    ensures { Adds (runs_lines level voice serial process) out.old.items out.new.items result }
-{
-    match (level, voice, process) {
-        (Level::All, Voice::Helpful, Some(process)) => runs_line(serial, process, out),
-        _ => Ok(()),
-    }
-}
-
-/// Adds the line of where a server listens, for a person.
-pub(crate) fn add_listening(
-    level: Level,
-    voice: Voice,
-    ip: [u8; 4],
-    port: u16,
-    out: &mut Vec<u8>,
-) -> Result<(), AllocError>
-    ensures { Adds (person voice level (listening_text ip port)) out.old.items out.new.items result }
-{
-    match (level, voice) {
-        (Level::All, Voice::Helpful) => listening_line(ip, port, out),
-        _ => Ok(()),
-    }
-}
-
-/// Adds the line of a child that was not started, or gave no pipe ends.
-pub(crate) fn add_start(
-    level: Level,
-    serial: u64,
-    fault: Option<StartFault>,
-    out: &mut Vec<u8>,
-) -> Result<(), AllocError>
-    ensures { Adds (error level (start_text serial fault)) out.old.items out.new.items result }
-{
-    match level {
-        Level::All | Level::Errors => start_fault_line(serial, fault, out),
-        Level::Quiet => Ok(()),
-    }
-}
-
-/// Adds the line of a cause, if there is one and causes are told.
-fn add_cause(detail: Detail, cause: Option<Cause<'_>>, out: &mut Vec<u8>) -> Result<(), AllocError>
-    ensures { Adds (cause_lines detail cause.entry) out.old.items out.new.items result }
-{
-    match (detail, cause) {
-        (Detail::Cause, Some(cause)) => cause_line(cause, out),
-        (Detail::Hint, Some(cause)) => cause_line(cause, out),
-        _ => Ok(()),
-    }
-}
-
-/// Adds the line of a cause that is told to a person alone, if there is one.
-fn add_hint(detail: Detail, cause: Option<Cause<'_>>, out: &mut Vec<u8>) -> Result<(), AllocError>
-    ensures { Adds (hint_lines detail cause.entry) out.old.items out.new.items result }
-{
-    match (detail, cause) {
-        (Detail::Hint, Some(cause)) => cause_line(cause, out),
-        _ => Ok(()),
-    }
-}
-
-/// Adds the line of a cause.
-fn cause_line(cause: Cause<'_>, out: &mut Vec<u8>) -> Result<(), AllocError>
-    ensures { AppendsLine (cause_line cause.entry) out.old.items out.new.items result }
-{
-    append_cause(out, "tcpserver", cause.what(), cause.why())
-}
-
-/// Adds the line of a child that was not started, and behind it that of the cause, if there is one.
-fn add_refused(
-    level: Level,
-    detail: Detail,
-    serial: u64,
-    fault: StartFault,
-    cause: Option<Cause<'_>>,
-    out: &mut Vec<u8>,
-) -> Result<(), AllocError>
-    ensures { Adds (error level (start_text serial (Some fault)) ++ cause_lines detail cause.entry) out.old.items out.new.items result }
-{
-    let start = add_start(level, serial, Some(fault), out);
-    let why = add_cause(detail, cause, out);
-    start.and(why)
-}
-
-fn add_retired(level: Level, serial: u64, out: &mut Vec<u8>) -> Result<(), AllocError>
-    ensures { Adds (error level (retired_text serial)) out.old.items out.new.items result }
-{
-    match level {
-        Level::All | Level::Errors => retired_line(serial, out),
-        Level::Quiet => Ok(()),
-    }
-}
-
-/// Adds the line of a connection that was given up.
-fn add_drop(
-    level: Level,
-    serial: u64,
-    cause: DropCause,
-    out: &mut Vec<u8>,
-) -> Result<(), AllocError>
-    ensures { Adds (error level (drop_text serial cause)) out.old.items out.new.items result }
-{
-    match level {
-        Level::All | Level::Errors => drop_line(serial, cause, out),
-        Level::Quiet => Ok(()),
-    }
-}
-
-/// Adds the line of a connection that was given up, and behind it those of the causes, if there are any: of the file for
-/// a person, and of what was asked of the system or is damaged.
-fn add_given_up(
-    level: Level,
-    detail: Detail,
-    serial: u64,
-    cause: DropCause,
-    file: Option<Cause<'_>>,
-    why: Option<Cause<'_>>,
-    out: &mut Vec<u8>,
-) -> Result<(), AllocError>
-    ensures { Adds (error level (drop_text serial cause) ++ (hint_lines detail file.entry ++ cause_lines detail why.entry))
-        out.old.items out.new.items result }
-{
-    let dropped = add_drop(level, serial, cause, out);
-    let causes = add_causes(detail, file, why, out);
-    dropped.and(causes)
-}
-
-/// Adds the lines of two causes, the first for a person alone.
-fn add_causes(
-    detail: Detail,
-    file: Option<Cause<'_>>,
-    why: Option<Cause<'_>>,
-    out: &mut Vec<u8>,
-) -> Result<(), AllocError>
-    ensures { Adds (hint_lines detail file.entry ++ cause_lines detail why.entry) out.old.items out.new.items result }
-{
-    let hint = add_hint(detail, file, out);
-    let why = add_cause(detail, why, out);
-    hint.and(why)
-}
-
-/// Adds the line of an address from which as many connections are alive as may be.
-pub(crate) fn add_full(level: Level, ip: [u8; 4], out: &mut Vec<u8>) -> Result<(), AllocError>
-    ensures { Adds (error level (full_text ip)) out.old.items out.new.items result }
-{
-    match level {
-        Level::All | Level::Errors => drop_address_line(ip, out),
-        Level::Quiet => Ok(()),
-    }
-}
-
-/// Appends the status line: how many connections are alive, and how many may be.
-///
-/// # Errors
-/// There was no memory, and nothing was appended. So it is of each call of this module.
-pub fn status(live: u64, limit: u64, out: &mut Vec<u8>) -> Result<(), AllocError>
-    ensures { AppendsLine (status_line live limit) out.old.items out.new.items result }
-{
-    let whole = out.len();
-    let done = push_status_line(live, limit, out);
-    whole_or_none(out, whole, done)
-}
-
-fn push_status_line(live: u64, limit: u64, out: &mut Vec<u8>) -> Result<(), AllocError>
-    ensures { AppendsPart (status_line live limit) out.old.items out.new.items result }
-{
-    push_text(out, "tcpserver: status: ")?;
-    push_number(out, live)?;
-    push_text(out, "/")?;
-    push_number(out, limit)?;
-    push_text(out, "\n")
-}
-
-/// Appends the line of a connection that came from an address.
-pub fn pid_from(serial: u64, ip: [u8; 4], out: &mut Vec<u8>) -> Result<(), AllocError>
-    ensures { AppendsLine (pid_line serial ip) out.old.items out.new.items result }
-{
-    let whole = out.len();
-    let done = push_pid_line(serial, ip, out);
-    whole_or_none(out, whole, done)
-}
-
-fn push_pid_line(serial: u64, ip: [u8; 4], out: &mut Vec<u8>) -> Result<(), AllocError>
-    ensures { AppendsPart (pid_line serial ip) out.old.items out.new.items result }
-{
-    push_text(out, "tcpserver: pid ")?;
-    push_number(out, serial)?;
-    push_text(out, " from ")?;
-    push_address(out, ip)?;
-    push_text(out, "\n")
-}
-
-/// Appends the line of what was decided of a connection, with its two ends.
-///
-/// In the names `?` stands for a byte that would be misread. Of a hundred bytes or more a hundred are printed, followed
-/// by `...`.
-pub fn verdict_line(
-    verdict: Verdict,
-    serial: u64,
-    local: &Local,
-    peer: &Peer,
-    out: &mut Vec<u8>,
-) -> Result<(), AllocError>
-    ensures { AppendsLine (verdict_text verdict serial local.now peer.now) out.old.items out.new.items result }
-{
-    let whole = out.len();
-    let done = push_verdict_line(verdict, serial, local, peer, out);
-    whole_or_none(out, whole, done)
-}
-
-fn push_verdict_line(
-    verdict: Verdict,
-    serial: u64,
-    local: &Local,
-    peer: &Peer,
-    out: &mut Vec<u8>,
-) -> Result<(), AllocError>
-    ensures { AppendsPart (verdict_text verdict serial local.now peer.now) out.old.items out.new.items result }
-{
-    push_text(out, "tcpserver: ")?;
-    push_text(out, verdict_word(verdict))?;
-    push_number(out, serial)?;
-    push_text(out, " ")?;
-    push_local(out, local)?;
-    push_text(out, " ")?;
-    push_remote(out, peer)?;
-    push_text(out, "\n")
+    let words = fault_words(fault);
+    [
+        Text("tcpserver: start "),
+        Number(serial),
+        Text(" "),
+        Text(words),
+    ]
 }
 
 fn verdict_word(verdict: Verdict) -> &'static str
@@ -449,119 +311,14 @@ fn verdict_word(verdict: Verdict) -> &'static str
     }
 }
 
-/// Appends the line of how a connection's child ended.
-pub fn end_line(serial: u64, ended: Status, out: &mut Vec<u8>) -> Result<(), AllocError>
-    ensures { AppendsLine (end_text serial ended) out.old.items out.new.items result }
+/// How a child ended.
+fn status_piece(status: Status) -> Piece<'static>
+    ensures { piece_text result ≡ status_text status }
 {
-    let whole = out.len();
-    let done = push_end_line(serial, ended, out);
-    whole_or_none(out, whole, done)
-}
-
-fn push_end_line(serial: u64, ended: Status, out: &mut Vec<u8>) -> Result<(), AllocError>
-    ensures { AppendsPart (end_text serial ended) out.old.items out.new.items result }
-{
-    push_text(out, "tcpserver: end ")?;
-    push_number(out, serial)?;
-    push_text(out, " status ")?;
-    push_status(out, ended)?;
-    push_text(out, "\n")
-}
-
-/// Appends the line of the signal that ended a connection's child.
-pub fn signal_line(serial: u64, signal: u32, out: &mut Vec<u8>) -> Result<(), AllocError>
-    ensures { AppendsLine (signal_text serial signal) out.old.items out.new.items result }
-{
-    let whole = out.len();
-    let done = push_two_numbers(
-        "tcpserver: cause: ",
-        serial,
-        ": signal ",
-        u64::from(signal),
-        out,
-    );
-    whole_or_none(out, whole, done)
-}
-
-/// Appends the line of the process that runs a connection's program.
-pub fn runs_line(serial: u64, process: u32, out: &mut Vec<u8>) -> Result<(), AllocError>
-    ensures { AppendsLine (runs_text serial process) out.old.items out.new.items result }
-{
-    let whole = out.len();
-    let done = push_two_numbers(
-        "tcpserver: runs ",
-        serial,
-        " process ",
-        u64::from(process),
-        out,
-    );
-    whole_or_none(out, whole, done)
-}
-
-/// Adds a line of a serial number and another number, with words before each.
-fn push_two_numbers(
-    before: &str,
-    serial: u64,
-    between: &str,
-    number: u64,
-    out: &mut Vec<u8>,
-) -> Result<(), AllocError>
-    ensures { AppendsPart (before.now ++ decimal serial ++ between.now ++ decimal number ++ codes "\n")
-        out.old.items out.new.items result }
-{
-    push_text(out, before)?;
-    push_number(out, serial)?;
-    push_text(out, between)?;
-    push_number(out, number)?;
-    push_text(out, "\n")
-}
-
-/// Appends the line of where a server listens.
-pub fn listening_line(ip: [u8; 4], port: u16, out: &mut Vec<u8>) -> Result<(), AllocError>
-    ensures { AppendsLine (listening_text ip port) out.old.items out.new.items result }
-{
-    let whole = out.len();
-    let done = push_listening(ip, port, out);
-    whole_or_none(out, whole, done)
-}
-
-fn push_listening(ip: [u8; 4], port: u16, out: &mut Vec<u8>) -> Result<(), AllocError>
-    ensures { AppendsPart (listening_text ip port) out.old.items out.new.items result }
-{
-    push_text(out, "tcpserver: listening on ")?;
-    push_address(out, ip)?;
-    push_text(out, ":")?;
-    push_number(out, u64::from(port))?;
-    push_text(out, "\n")
-}
-
-/// Appends the line of a connection whose place is given up, since its child could not be waited for.
-pub fn retired_line(serial: u64, out: &mut Vec<u8>) -> Result<(), AllocError>
-    ensures { AppendsLine (retired_text serial) out.old.items out.new.items result }
-{
-    let whole = out.len();
-    let done = push_retired_line(serial, out);
-    whole_or_none(out, whole, done)
-}
-
-fn push_retired_line(serial: u64, out: &mut Vec<u8>) -> Result<(), AllocError>
-    ensures { AppendsPart (retired_text serial) out.old.items out.new.items result }
-{
-    push_text(out, "tcpserver: retired ")?;
-    push_number(out, serial)?;
-    push_text(out, "\n")
-}
-
-/// Appends the line of why a connection was dropped; nothing if a rule denied it.
-pub fn drop_line(serial: u64, cause: DropCause, out: &mut Vec<u8>) -> Result<(), AllocError>
-    ensures { AppendsLine (drop_text serial cause) out.old.items out.new.items result }
-{
-    let Some(words) = cause_words(cause) else {
-        return Ok(());
-    };
-    let whole = out.len();
-    let done = push_reason_line("tcpserver: drop ", serial, words, out);
-    whole_or_none(out, whole, done)
+    match status {
+        Status::Code(code) => Number(u64::from(code)),
+        Status::Signal => Text("signal"),
+    }
 }
 
 /// The words for a cause, if a drop for it has a line.
@@ -579,20 +336,6 @@ fn cause_words(cause: DropCause) -> Option<&'static str>
     }
 }
 
-/// Appends the line of why a connection's child was not started. `None` is for a child that was started and gave no
-/// pipe ends.
-pub fn start_fault_line(
-    serial: u64,
-    fault: Option<StartFault>,
-    out: &mut Vec<u8>,
-) -> Result<(), AllocError>
-    ensures { AppendsLine (start_text serial fault) out.old.items out.new.items result }
-{
-    let whole = out.len();
-    let done = push_reason_line("tcpserver: start ", serial, fault_words(fault), out);
-    whole_or_none(out, whole, done)
-}
-
 fn fault_words(fault: Option<StartFault>) -> &'static str
     ensures { result.now ≡ fault_text fault }
 {
@@ -603,38 +346,4 @@ fn fault_words(fault: Option<StartFault>) -> &'static str
         Some(StartFault::OutOfMemory) => "out of memory",
         None => "no pipe ends",
     }
-}
-
-/// Adds a line of a serial number, with words before it and behind it.
-fn push_reason_line(
-    before: &str,
-    serial: u64,
-    after: &str,
-    out: &mut Vec<u8>,
-) -> Result<(), AllocError>
-    ensures { AppendsPart (before.now ++ decimal serial ++ codes " " ++ after.now ++ codes "\n")
-        out.old.items out.new.items result }
-{
-    push_text(out, before)?;
-    push_number(out, serial)?;
-    push_text(out, " ")?;
-    push_text(out, after)?;
-    push_text(out, "\n")
-}
-
-/// Appends the line of an address from which as many connections are alive as may be.
-pub fn drop_address_line(ip: [u8; 4], out: &mut Vec<u8>) -> Result<(), AllocError>
-    ensures { AppendsLine (full_text ip) out.old.items out.new.items result }
-{
-    let whole = out.len();
-    let done = push_full_line(ip, out);
-    whole_or_none(out, whole, done)
-}
-
-fn push_full_line(ip: [u8; 4], out: &mut Vec<u8>) -> Result<(), AllocError>
-    ensures { AppendsPart (full_text ip) out.old.items out.new.items result }
-{
-    push_text(out, "tcpserver: drop ")?;
-    push_address(out, ip)?;
-    push_text(out, " address full\n")
 }

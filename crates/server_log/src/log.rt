@@ -1,17 +1,20 @@
 //! The log of a server: which lines an event has, and when they are written.
-ghost use Rattle.std.specs.Prelude.{◌≡◌, ◌≢◌, ◌↔◌, Err, IfErr, IsTrue, List, [], ℕ};
+ghost use Rattle.std.specs.Prelude.{◌≡◌, ◌≢◌, ◌↔◌, Err, IfErr, IsTrue, List, ℕ};
 ghost use Rattle.std.specs.Io.{WritesAtMost};
 ghost use Rattle.std.specs.Io.KnownBytes.{Keeps, WriteAppends};
 ghost use Rattle.server_log.specs.Lines.{event_lines, full_lines, listening_text, memory_lines, no_ends_lines, no_names_lines, person, status_lines};
-ghost use Rattle.server_log.specs.Logs.{Adds, IsLater, KeepsSettings, Logged, Takes, TellsInOrder, held, last_of, level_of, limit_of, voice_of, writer_of};
+ghost use Rattle.server_log.specs.Logs.{Holds, IsLater, KeepsSettings, Logged, Takes, TellsInOrder, held, last_of, level_of, limit_of, voice_of, writer_of};
+ghost use Rattle.server_log.specs.Pieces.{line_of, told_lines};
 
 use crate::fault::LogFault;
-use crate::lines::{add_event, add_full, add_listening, add_start, add_status};
+use crate::lines::{Lines, Settings, Shown, start_line, status_line};
+use crate::pieces::Piece;
+use crate::pieces::Piece::{Address, Number, Text};
 use crate::told::Told;
 use byte_streams::write_out;
 use fault_hints::Voice;
 use server_words::Level;
-use std::alloc::{AllocError, Global};
+use std::alloc::Global;
 use std::io;
 use std::io::Write;
 
@@ -23,13 +26,11 @@ use std::io::Write;
 #[derive(Drop)]
 pub struct Log<W> {
     writer: W,
-    level: Level,
-    voice: Voice,
-    limit: u64,
+    settings: Settings,
     // the position of the last event that was told
     last: u64,
     // room for the lines of an event
-    lines: Vec<u8>,
+    lines: Lines,
 }
 
 impl<W: Write> Log<W> {
@@ -42,13 +43,16 @@ impl<W: Write> Log<W> {
         ensures limit { limit_of result ≡ limit }
         ensures untold { last_of result ≡ 0 }
     {
-        Log {
-            writer,
+        let settings = Settings {
             level,
             voice,
             limit,
+        };
+        Log {
+            writer,
+            settings,
             last: 0,
-            lines: Vec::new(alloc),
+            lines: Lines::new(alloc),
         }
     }
 
@@ -62,9 +66,8 @@ impl<W: Write> Log<W> {
         ensures same { KeepsSettings self.old self.new }
         ensures no_event { last_of self.new ≡ last_of self.old }
     {
-        self.lines.clear();
-        let status = add_status(self.level, self.limit, live, &mut self.lines);
-        self.write_lines(status)
+        let line = status_line(live, self.settings.limit);
+        self.tell_line(Shown::Progress, &line)
     }
 
     /// Tells an event at its position in the history, after which `live` connections are alive.
@@ -85,9 +88,8 @@ impl<W: Write> Log<W> {
         }
         self.last = at;
         self.lines.clear();
-        let (level, voice) = (self.level, self.voice);
-        let added = add_event(level, voice, self.limit, live, told, &mut self.lines);
-        self.write_lines(added)
+        self.lines.add_event(self.settings, live, told);
+        self.write_lines()
     }
 
     /// Tells where the server listens.
@@ -97,9 +99,14 @@ impl<W: Write> Log<W> {
         ensures same { KeepsSettings self.old self.new }
         ensures no_event { last_of self.new ≡ last_of self.old }
     {
-        self.lines.clear();
-        let listening = add_listening(self.level, self.voice, ip, port, &mut self.lines);
-        self.write_lines(listening)
+        let port = Number(u64::from(port));
+        let line = [
+            Text("tcpserver: listening on "),
+            Address(ip),
+            Text(":"),
+            port,
+        ];
+        self.tell_line(Shown::Person, &line)
     }
 
     /// Tells that a child which was started gave no pipe ends, or that its input got no thread.
@@ -109,9 +116,7 @@ impl<W: Write> Log<W> {
         ensures same { KeepsSettings self.old self.new }
         ensures no_event { last_of self.new ≡ last_of self.old }
     {
-        self.lines.clear();
-        let failed = add_start(self.level, serial, None, &mut self.lines);
-        self.write_lines(failed)
+        self.tell_line(Shown::Fault, &start_line(serial, None))
     }
 
     /// Tells that a connection was refused, since as many of its address are alive as may be.
@@ -121,9 +126,8 @@ impl<W: Write> Log<W> {
         ensures same { KeepsSettings self.old self.new }
         ensures no_event { last_of self.new ≡ last_of self.old }
     {
-        self.lines.clear();
-        let full = add_full(self.level, ip, &mut self.lines);
-        self.write_lines(full)
+        let line = [Text("tcpserver: drop "), Address(ip), Text(" address full")];
+        self.tell_line(Shown::Fault, &line)
     }
 
     /// Tells that a connection was refused for want of memory. Its line takes no memory.
@@ -138,7 +142,7 @@ impl<W: Write> Log<W> {
         ensures same { KeepsSettings self.old self.new }
         ensures no_event { last_of self.new ≡ last_of self.old }
     {
-        match self.level {
+        match self.settings.level {
             Level::All | Level::Errors => {
                 write_text(b"tcpserver: out of memory\n", &mut self.writer)
             }
@@ -158,7 +162,7 @@ impl<W: Write> Log<W> {
         ensures same { KeepsSettings self.old self.new }
         ensures no_event { last_of self.new ≡ last_of self.old }
     {
-        match self.level {
+        match self.settings.level {
             Level::All => write_text(
                 b"tcpserver: rules by name, and no names\n",
                 &mut self.writer,
@@ -167,16 +171,30 @@ impl<W: Write> Log<W> {
         }
     }
 
-    /// Writes the lines that were added. `added` says whether all of them found memory.
-    fn write_lines(&mut self, added: Result<(), AllocError>) -> Result<(), LogFault>
-        ensures lines { (lines : List (List ℕ)) → Adds lines [] self.old.lines.items added
+    /// Tells a line of these pieces.
+    fn tell_line(&mut self, shown: Shown, pieces: &[Piece<'_>]) -> Result<(), LogFault>
+        ensures lines { Logged (told_lines shown (level_of self.old) (voice_of self.old) (line_of pieces.now))
+            (held W.contents self.old) (held W.contents self.new) result }
+        ensures same { KeepsSettings self.old self.new }
+        ensures no_event { last_of self.new ≡ last_of self.old }
+    {
+        self.lines.clear();
+        self.lines.add(self.settings, shown, pieces);
+        self.write_lines()
+    }
+
+    /// Writes the lines that were added.
+    fn write_lines(&mut self) -> Result<(), LogFault>
+        ensures lines { (lines : List (List ℕ)) → Holds lines self.old.lines
             → Logged lines (held W.contents self.old) (held W.contents self.new) result }
         ensures same { KeepsSettings self.old self.new }
         ensures no_event { last_of self.new ≡ last_of self.old }
     {
-        match write_text(&self.lines, &mut self.writer) {
-            Ok(()) => added.map_err(|_| LogFault::OutOfMemory),
-            Err(fault) => Err(fault),
+        let written = write_text(&self.lines.bytes, &mut self.writer);
+        match (written, self.lines.added) {
+            (Err(fault), _) => Err(fault),
+            (Ok(()), Err(_)) => Err(LogFault::OutOfMemory),
+            (Ok(()), Ok(())) => Ok(()),
         }
     }
 }
@@ -190,7 +208,10 @@ fn is_later(last: u64, at: u64) -> bool
 fn write_text<W: Write>(bytes: &[u8], writer: &mut W) -> Result<(), LogFault>
     ensures { Takes bytes.now (W.contents writer.old) (W.contents writer.new) result }
 {
-    write_out(bytes, writer, &mut 0).map_err(|_| LogFault::WriteFault)
+    match write_out(bytes, writer, &mut 0) {
+        Ok(()) => Ok(()),
+        Err(_) => Err(LogFault::WriteFault),
+    }
 }
 
 impl<W: Write> Write for Log<W> {
