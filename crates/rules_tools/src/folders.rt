@@ -123,7 +123,7 @@ impl<'a, S: Files<File = File>, E> Folders for SystemFolders<'a, S, E> {
     }
 
     fn failed(&mut self, folder: &OsDir<&'a S>) {
-        self.cause = ErrorCause::of_look_up(folder.failure());
+        self.cause = ErrorCause::of_call(CauseOf::Rules, folder.failure());
     }
 
     fn cause(&self) -> Option<ErrorCause> {
@@ -162,6 +162,6 @@ where
     }
 
     fn close(&mut self, dir: LockedDir<&'a S, Waiting<'a, S, E>>) -> Option<ErrorCause> {
-        ErrorCause::of_installation(dir.failure())
+        ErrorCause::of_call(CauseOf::Scratch, dir.failure())
     }
 }

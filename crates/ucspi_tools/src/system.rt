@@ -172,7 +172,7 @@ fn review_by<I: Read + Drop, E: Write + Drop>(
     }
 }
 
-// `tcprulescheck` over this system. (The prover takes it only where nothing is known of the system's files.)
+// `tcprulescheck` over this system.
 fn check_over<R, E, W>(system: &R, errors: E, output: W, cdb: &str) -> Result<(), CheckFailure>
 where
     R: Env + AllocGlobal + Files<File = File>,
