@@ -27,6 +27,8 @@ ARGUMENTS = {"patch": 2, "rename": 2, "sync": 0, "settle": 0, "failures": 0}
 SHOWN = 4096
 # a file that is made and not moved
 UNNAMED = "fresh tmp append abc append def patch 1 XY sync open rules failures"
+# a file that is made, if what stands there can be taken away
+MADE = "fresh tmp open rules failures"
 
 
 def limit_files():
@@ -93,7 +95,7 @@ def cases(probe, folder):
     wanted = [DEVICE, DEVICE, DEVICE, "3"]
     yield "a name that is a folder", probe.answers(folder, "open inner fresh inner rename rules inner failures"), wanted
     os.mkfifo(os.path.join(folder, "pipe"))
-    yield "a name that is a pipe", probe.answers(folder, "open pipe fresh pipe"), [DEVICE, "done"]
+    yield "a name that is a pipe", probe.answers(folder, "open pipe fresh pipe"), [DEVICE, DEVICE]
     os.remove(os.path.join(folder, "pipe"))
     yield "what stood there before", sorted(os.listdir(folder)), ["inner", "rules", "t"]
 
@@ -124,6 +126,12 @@ def refused_cases(probe, folder):
     yield "a device that takes no more, met by a patch", probe.answers(folder, "fresh t zeros 110000 patch 0 x sync", preexec_fn=limit_files), wanted
 
 
+def leave_file(folder):
+    """Leaves a file under the scratch name, as a killed process does."""
+    with open(os.path.join(folder, "tmp"), "w"):
+        pass
+
+
 def system_calls(probe, folder, words):
     """The system calls on the folder and its files, each as its name and its file."""
     trace = os.path.join(folder, "..", "trace")
@@ -141,9 +149,12 @@ def system_calls(probe, folder, words):
 
 def trace_cases(probe, folder):
     """The order of the system calls, and how many a long file takes."""
-    wanted = ["openat folder folder", "unlink tmp", "openat tmp tmp", "pwrite64 tmp", "pwrite64 tmp", "fsync tmp", "rename tmp rules", "fsync folder", "close folder", "close rules"]
+    wanted = ["openat tmp tmp", "pwrite64 tmp", "pwrite64 tmp", "fsync tmp", "rename tmp rules", "fsync folder", "close folder", "close rules"]
     words = "fresh tmp append abc append def patch 1 XY sync rename tmp rules settle"
-    yield "the system calls of a replacement", system_calls(probe, folder, words), wanted
+    yield "the system calls of a replacement", system_calls(probe, folder, words), ["openat folder folder"] + wanted
+    leave_file(folder)
+    found = ["openat folder folder", "openat tmp tmp", "unlink tmp", "close tmp"]
+    yield "those where a file stands under the scratch name", system_calls(probe, folder, words), found + wanted
     calls = system_calls(probe, folder, "fresh tmp zeros 655360 sync")
     yield "a write for each 65,536 bytes", [calls.count("pwrite64 tmp")], [10]
 
@@ -155,7 +166,8 @@ def opened_flags(probe, folder):
     subprocess.run(command, input=commands("fresh tmp"), stdout=subprocess.DEVNULL, timeout=LIMIT, check=True)
     with open(trace) as lines:
         # (behind the path, whose folders may have digits)
-        return [re.findall(r"O_WRONLY\|O_CREAT\|O_EXCL|0[0-7]+", line.rpartition('"')[2]) for line in lines if "/tmp\"" in line]
+        made = [line.rpartition('"')[2] for line in lines if "/tmp\"" in line and "O_CREAT" in line]
+    return [re.findall(r"O_RDWR\|O_CREAT\|O_EXCL|0[0-7]+", line) for line in made]
 
 
 def injected(probe, folder, call, how, words, on=()):
@@ -167,18 +179,21 @@ def injected(probe, folder, call, how, words, on=()):
 
 def injected_cases(probe, folder):
     """System calls that are interrupted once, or fail at call k, for each k."""
-    yield "how a scratch file is made", opened_flags(probe, folder), [["O_WRONLY|O_CREAT|O_EXCL", "0644"]]
+    yield "how a scratch file is made", opened_flags(probe, folder), [["O_RDWR|O_CREAT|O_EXCL", "0600"]]
     for call in ("unlink", "rename", "pwrite64", "fsync", "statx"):
+        leave_file(folder)
         yield call + " interrupted", injected(probe, folder, call, "error=EINTR:when=1", REPLACEMENT), ANSWERS
     on = ["-P", os.path.join(folder, "rules")]
     yield "a read interrupted", injected(probe, folder, "pread64", "error=EINTR:when=1", "open rules failures", on), [WHOLE, "0"]
     for fault in ("EIO", "ENOSPC"):
         for call, times in (("unlink", 1), ("pwrite64", 2), ("fsync", 2), ("rename", 1)):
             for k in range(1, times + 1):
-                words = UNNAMED if call == "pwrite64" else REPLACEMENT
+                words = {"pwrite64": UNNAMED, "unlink": MADE}.get(call, REPLACEMENT)
                 # (what a fault of a rename left there is no file of the next run, and its rename would be a fault too)
                 if os.path.exists(os.path.join(folder, "tmp")):
                     os.remove(os.path.join(folder, "tmp"))
+                if call == "unlink":
+                    leave_file(folder)
                 answers = injected(probe, folder, call, "error=%s:when=%d" % (fault, k), words)
                 yield "%s at %s %d" % (fault, call, k), [answers.count(DEVICE), WHOLE in answers, answers[-1]], [1, True, "1"]
 

@@ -34,7 +34,7 @@ module _ {H : Type 0} (number : H → ℕ) (d f : Directory) (scratch : Option H
       after done = (without (kept_back pending d) name, inr (inl refl), ap (λ (x : Directory). x.names) done ∙ ap (λ (t : NameTable). taken_from t name (get (current t) name)) (sym named))
 
 -- whatever the disk answers, the name is taken away or not
-pub unlinked : {T E : Type 0} (answer : Result T E) (m e f : Directory) (path name : List ℕ) → m ≡ e → path ≡ name → OnOk answer (f ≡ without m path) → OnErr answer (AllOrNone m (without m path) f) → AllOrNone e (without e name) f
-unlinked (Ok x) m e f path name same named done failed = inr (done ∙ ap (λ (d : Directory). without d path) same ∙ ap (without e) named)
-unlinked (Err x) m e f path name same named done failed =
-    ⊎_elim (λ was. inl (was ∙ same)) (λ is. inr (is ∙ ap (λ (d : Directory). without d path) same ∙ ap (without e) named)) failed
+pub unlinked : {T E : Type 0} (answer : Result T E) (m e f : Directory) (name : List ℕ) → m ≡ e → OnOk answer (f ≡ without m name) → OnErr answer (AllOrNone m (without m name) f) → AllOrNone e (without e name) f
+unlinked (Ok x) m e f name same done failed = inr (done ∙ ap (λ (d : Directory). without d name) same)
+unlinked (Err x) m e f name same done failed =
+    ⊎_elim (λ was. inl (was ∙ same)) (λ is. inr (is ∙ ap (λ (d : Directory). without d name) same)) failed

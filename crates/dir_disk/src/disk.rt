@@ -1,5 +1,5 @@
 //! What a file system promises, call by call.
-ghost use Rattle.std.specs.Prelude.{◌≡◌, ◌≢◌, ◌≤◌, ◌<◌, ◌+◌, ◌^◌, List, ℕ, Bool, true, IsTrue, None, Some, IsSome, length, take, slice_get, IfOk, OnOk, OnErr};
+ghost use Rattle.std.specs.Prelude.{◌≡◌, ◌≢◌, ◌≤◌, ◌<◌, ◌+◌, ◌^◌, List, ℕ, Bool, true, IsTrue, None, Some, length, take, slice_get, IfOk, OnOk, OnErr};
 ghost use Rattle.std.specs.Option.{option_map, ForSome};
 ghost use Rattle.dir_calls.specs.Directory.{Directory, number_of};
 ghost use Rattle.dir_calls.specs.Images.{IsImage};
@@ -9,14 +9,11 @@ ghost use Rattle.dir_disk.specs.DiskFaults.{OnInterrupted, OnNotFound};
 ghost use Rattle.dir_disk.specs.DiskSteps.{AllOrNone, FindsNone, MayWrite, MovesNoOther, MovesOrNot, RemovesOrNot, SettlesPart, Spoils, StepElapses, after_sync, after_write, created};
 
 use dir_calls::Name;
-use std::alloc::{AllocError, Global};
-use std::io::{self, ErrorKind};
+use std::io;
 
 /// What an opened file is.
 #[derive(Clone, Copy)]
 pub struct Look {
-    /// Whether it is a file, and not a folder, pipe or device.
-    pub is_file: bool,
     /// How many bytes it has.
     pub len: u64,
     /// The number of its device.
@@ -25,9 +22,9 @@ pub struct Look {
     pub inode: u64,
 }
 
-/// A file that was opened to be read, and that nobody writes.
+/// A file that was opened.
 pub trait DiskFile {
-    /// Its bytes.
+    /// Its bytes, if it was opened to be read and nobody writes it.
     ghost bytes: { Self → List ℕ };
 
     /// Whether its reads are known to give these bytes.
@@ -47,16 +44,7 @@ pub trait DiskFile {
 /// A folder of a file system. Each call does what POSIX and Linux promise, if only this process changes the names. A
 /// call that a signal interrupts has done nothing.
 pub trait Disk {
-    /// The path of a name in the folder.
-    type Path: Drop;
-
-    /// The folder itself, opened.
-    type Folder: Drop;
-
     /// An opened file.
-    type Handle: Drop;
-
-    /// A file that is read.
     type File: DiskFile + Drop;
 
     /// What stands in the folder.
@@ -71,42 +59,20 @@ pub trait Disk {
     /// What a stop since this moment may have left.
     ghost left_since: { Self → ℕ → Directory → Type 0 };
 
-    /// The name that a path leads to.
-    ghost named: { Self.Path → List ℕ };
-
-    /// The number of a handle's file.
-    ghost number: { Self.Handle → ℕ };
+    /// The number of an opened file.
+    ghost number: { Self.File → ℕ };
 
     /// Whether it is a file, and not a folder, pipe or device.
-    ghost regular: { Self.Handle → Bool };
-
-    /// Whether a handle is of a file of this disk as it stands now, opened to be read.
-    ghost known: { Self → Self.Handle → Type 0 };
+    ghost regular: { Self.File → Bool };
 
     /// The numbers of a file's device and of the file there.
     ghost identity: { ℕ → ℕ × ℕ };
-
-    /// Room for the path of any name.
-    ///
-    /// # Errors
-    /// Want of memory.
-    fn room(&self, alloc: Global) -> Result<Self::Path, AllocError>;
-
-    /// Puts the path of a name into the room for one. It takes no memory.
-    fn put_path(&self, path: &mut Self::Path, name: &Name)
-        ensures { IsTrue honest → named path.new ≡ name.now };
-
-    /// Opens the folder itself.
-    ///
-    /// # Errors
-    /// Those of the system.
-    fn open_folder(&self) -> io::Result<Self::Folder>;
 
     /// Makes all changes of names so far lasting (fsync of the folder).
     ///
     /// # Errors
     /// Those of the system. The first of the changes may be lasting then, some or all or none.
-    fn sync_folder(&mut self, folder: &Self::Folder) -> io::Result<()>
+    fn sync_folder(&mut self) -> io::Result<()>
         ensures done { IsTrue honest → OnOk result (state self.new ≡ after settles (state self.old)) }
         ensures interrupted { IsTrue honest → OnInterrupted result (state self.new ≡ state self.old) }
         ensures failed { IsTrue honest → OnErr result (SettlesPart (state self.old) (state self.new)) }
@@ -116,13 +82,13 @@ pub trait Disk {
     ///
     /// # Errors
     /// `NotFound` if there is no such name; others of the system, and then the name may be taken away.
-    fn unlink(&mut self, folder: &Self::Folder, path: &Self::Path) -> io::Result<()>
-        ensures done { IsTrue honest → OnOk result (state self.new ≡ without (state self.old) (named path.now)) }
+    fn unlink(&mut self, name: &Name) -> io::Result<()>
+        ensures done { IsTrue honest → OnOk result (state self.new ≡ without (state self.old) name.now) }
         ensures absent { IsTrue honest → OnNotFound result
-            (FindsNone (named path.now) (state self.old) (state self.new)) }
+            (FindsNone name.now (state self.old) (state self.new)) }
         ensures interrupted { IsTrue honest → OnInterrupted result (state self.new ≡ state self.old) }
         ensures failed { IsTrue honest → OnErr result
-            (RemovesOrNot (named path.now) (state self.old) (state self.new)) }
+            (RemovesOrNot name.now (state self.old) (state self.new)) }
         ensures time { IsTrue honest → StepElapses state moment left_since self.old self.new };
 
     /// Makes a new empty file under a name that must be free (open with `O_CREAT` and `O_EXCL`), to be written. It gets
@@ -130,17 +96,12 @@ pub trait Disk {
     ///
     /// # Errors
     /// Those of the system, and then the file may be made.
-    fn create(
-        &mut self,
-        folder: &Self::Folder,
-        path: &Self::Path,
-        mode: u32,
-    ) -> io::Result<Self::Handle>
-        ensures free { IsTrue honest → OnOk result (number_of (state self.old) (named path.now) ≡ None) }
-        ensures done { IsTrue honest → OnOk result (state self.new ≡ created (state self.old) (named path.now)) }
+    fn create(&mut self, name: &Name, mode: u32) -> io::Result<Self::File>
+        ensures free { IsTrue honest → OnOk result (number_of (state self.old) name.now ≡ None) }
+        ensures done { IsTrue honest → OnOk result (state self.new ≡ created (state self.old) name.now) }
         ensures handle { IsTrue honest → IfOk result (λ file. (state self.new).scratch ≡ Some (number file)) }
         ensures failed { IsTrue honest → OnErr result
-            (AllOrNone (state self.old) (closed (created (state self.old) (named path.now))) (state self.new)) }
+            (AllOrNone (state self.old) (closed (created (state self.old) name.now)) (state self.new)) }
         ensures time { IsTrue honest → StepElapses state moment left_since self.old self.new };
 
     /// Writes bytes from a position on, perhaps not all, and answers how many (pwrite).
@@ -148,7 +109,7 @@ pub trait Disk {
     /// # Errors
     /// Those of the system. After any but an interruption the file may hold any bytes, and it is not known that a later
     /// sync makes them last.
-    fn write_at(&mut self, file: &Self::Handle, position: u64, bytes: &[u8]) -> io::Result<usize>
+    fn write_at(&mut self, file: &Self::File, position: u64, bytes: &[u8]) -> io::Result<usize>
         requires may { IsTrue honest → MayWrite (state self.old) (number file.now) position }
         ensures count { IfOk result (λ n. n ≤ length bytes.now) }
         ensures fits { IsTrue honest → IfOk result (λ n. position + n < 2 ^ 63) }
@@ -163,7 +124,7 @@ pub trait Disk {
     /// # Errors
     /// Those of the system. After any but an interruption the file may hold any bytes, and it is not known that a later
     /// sync makes them last.
-    fn sync(&mut self, file: &Self::Handle) -> io::Result<()>
+    fn sync(&mut self, file: &Self::File) -> io::Result<()>
         requires may { IsTrue honest → (state self.old).scratch ≡ Some (number file.now) }
         ensures done { IsTrue honest → OnOk result (state self.new ≡ after_sync (state self.old)) }
         ensures interrupted { IsTrue honest → OnInterrupted result (state self.new ≡ state self.old) }
@@ -172,7 +133,7 @@ pub trait Disk {
 
     /// Promises that this process writes no more to the file that was made last. It may stay open, so that others see
     /// that this process has it.
-    fn close(&mut self, file: &Self::Handle)
+    fn close(&mut self, file: &Self::File)
         requires may { IsTrue honest → (state self.old).scratch ≡ Some (number file.now) }
         ensures done { IsTrue honest → state self.new ≡ closed (state self.old) }
         ensures time { IsTrue honest → StepElapses state moment left_since self.old self.new };
@@ -182,64 +143,47 @@ pub trait Disk {
     ///
     /// # Errors
     /// `NotFound` if there is no such name; others of the system, and then the name may be moved.
-    fn rename(
-        &mut self,
-        folder: &Self::Folder,
-        file: &Self::Handle,
-        from: &Self::Path,
-        to: &Self::Path,
-    ) -> io::Result<()>
+    fn rename(&mut self, file: &Self::File, from: &Name, to: &Name) -> io::Result<()>
         ensures own { IsTrue honest → OnOk result
-            (number_of (state self.old) (named from.now) ≡ Some (number file.now)) }
+            (number_of (state self.old) from.now ≡ Some (number file.now)) }
         ensures own_if_moved { IsTrue honest → OnErr result
-            (MovesNoOther (Some (number file.now)) (named from.now) (state self.old) (state self.new)) }
+            (MovesNoOther (Some (number file.now)) from.now (state self.old) (state self.new)) }
         ensures done { IsTrue honest → OnOk result
-            (state self.new ≡ after (renames (named from.now) (named to.now)) (state self.old)) }
+            (state self.new ≡ after (renames from.now to.now) (state self.old)) }
         ensures absent { IsTrue honest → OnNotFound result
-            (FindsNone (named from.now) (state self.old) (state self.new)) }
+            (FindsNone from.now (state self.old) (state self.new)) }
         ensures interrupted { IsTrue honest → OnInterrupted result (state self.new ≡ state self.old) }
         ensures failed { IsTrue honest → OnErr result
-            (MovesOrNot (named from.now) (named to.now) (state self.old) (state self.new)) }
+            (MovesOrNot from.now to.now (state self.old) (state self.new)) }
         ensures time { IsTrue honest → StepElapses state moment left_since self.old self.new };
 
-    /// Whether what stands under a name is a file, and not a folder, pipe or device (stat). It is not opened.
+    /// Opens what stands under a name to read it (open), unless it is no file. It changes nothing.
     ///
     /// # Errors
-    /// `NotFound` if there is no such name; others of the system.
-    fn is_file(&self, path: &Self::Path) -> io::Result<bool>
-        ensures absent { IsTrue honest → OnNotFound result
-            (number_of (state self.now) (named path.now) ≡ None) };
-
-    /// Opens what stands under a name to read it (open).
-    ///
-    /// # Errors
-    /// `NotFound` if there is no such name; others of the system.
-    fn open(&self, path: &Self::Path) -> io::Result<Self::Handle>
+    /// `NotFound` if there is no such name; others of the system, and one if no file stands there.
+    fn open(&mut self, name: &Name) -> io::Result<Self::File>
         ensures opened { IsTrue honest → IfOk result (λ file.
-            number_of (state self.now) (named path.now) ≡ Some (number file)) }
-        ensures known { IsTrue honest → IfOk result (λ file. known self.now file) }
-        ensures absent { IsTrue honest → OnNotFound result
-            (number_of (state self.now) (named path.now) ≡ None) };
+            number_of (state self.old) name.now ≡ Some (number file)) }
+        // reads give what stands there now, if it is a file that nobody writes any more
+        ensures read { IsTrue honest → IfOk result (λ file.
+            regular file ≡ true → (state self.old).scratch ≢ Some (number file)
+            → option_map (λ stands. stands.bytes) (slice_get (state self.old).files (number file))
+            ≡ Some (Self.File.bytes file)) }
+        ensures absent { IsTrue honest → OnNotFound result (number_of (state self.old) name.now ≡ None) }
+        ensures same { IsTrue honest → state self.new ≡ state self.old }
+        ensures time { IsTrue honest → StepElapses state moment left_since self.old self.new };
 
     /// What an opened file is (fstat).
     ///
     /// # Errors
-    /// Those of the system.
-    fn look(&self, file: &Self::Handle) -> io::Result<Look>
-        ensures kind { IsTrue honest → IfOk result (λ look. look.is_file ≡ regular file.now) }
+    /// Those of the system, and one if it is a folder, pipe or device.
+    fn look(&self, file: &Self::File) -> io::Result<Look>
+        ensures kind { IsTrue honest → OnOk result (regular file.now ≡ true) }
         ensures length { IsTrue honest → IfOk result (λ look.
             ForSome (slice_get (state self.now).files (number file.now))
             (λ stands. look.len ≡ length stands.bytes)) }
         ensures identity { IsTrue honest → IfOk result (λ look.
             (look.device, look.inode) ≡ identity (number file.now)) };
-
-    /// The file of a handle, to be read. It must be a file of this disk that was opened to be read, and that nobody writes any more.
-    fn reading(&self, file: Self::Handle) -> Self::File
-        requires known { IsTrue honest → known self.now file }
-        requires regular { IsTrue honest → regular file ≡ true }
-        requires unwritten { IsTrue honest → (state self.now).scratch ≢ Some (number file) }
-        ensures { IsTrue honest → option_map (λ stands. stands.bytes) (slice_get (state self.now).files (number file))
-            ≡ Some (Self.File.bytes result) };
 
     /// A stop now is among the stops since any earlier moment.
     ghost counts_now: { (disk : Self) (earlier : ℕ) (image : Directory) → IsTrue honest → earlier ≤ moment disk

@@ -53,21 +53,19 @@ impl Notes {
         outcome
     }
 
-    /// The same, unless a failure is noted already.
-    pub(crate) fn note_first<T>(&self, on: FailedOn, outcome: io::Result<T>) -> io::Result<T>
-        ensures { result ≡ outcome }
-    {
-        if self.last().is_some() {
-            return outcome;
+    /// Notes this failure again, if there is one.
+    pub(crate) fn keep(&self, failure: Option<DiskFailure>) {
+        if let Some(failure) = failure {
+            self.on.set(failure.on);
+            self.error
+                .store(failure.error.cast_unsigned(), Ordering::SeqCst);
         }
-        self.note(on, outcome)
     }
 
     /// Notes for the reads of a file that is opened; `None` if too many files have them already.
-    pub(crate) fn of_file(&self) -> Option<FileNotes> {
+    pub(crate) fn of_file(&self) -> Option<Arc<AtomicU32, Global>> {
         self.on.set(FailedOn::Name);
-        let error = Arc::try_clone(&self.error).ok()?;
-        Some(FileNotes { error })
+        Arc::try_clone(&self.error).ok()
     }
 
     /// The last call, if it failed by an error of the system.
@@ -82,20 +80,8 @@ impl Notes {
     }
 }
 
-/// Notes of the reads of an opened file, shared with its disk.
-#[derive(Drop)]
-pub(crate) struct FileNotes {
-    error: Arc<AtomicU32, Global>,
-}
-
-impl FileNotes {
-    /// Notes how a read ended.
-    pub(crate) fn note<T>(&self, outcome: &io::Result<T>) {
-        store(&self.error, outcome);
-    }
-}
-
-fn store<T>(noted: &AtomicU32, outcome: &io::Result<T>) {
+/// Notes how a call ended.
+pub(crate) fn store<T>(noted: &AtomicU32, outcome: &io::Result<T>) {
     let error = match outcome {
         Ok(_) => 0,
         Err(error) => error.raw_os_error().map_or(0, i32::cast_unsigned),

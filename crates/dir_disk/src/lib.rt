@@ -1,13 +1,12 @@
 //! Folders of a disk, and so of the system. What a directory is stands in `dir_calls`.
 //!
 //! `DiskDir` is an honest directory if its disk keeps the clauses of `Disk`, which say what POSIX and Linux promise of
-//! each call. `OsDir`, which the tools use, is a `DiskDir`
-//! over `SystemDisk`. Each method of `SystemDisk` is one call of the system, and only its safety is proved: that it
-//! keeps the clauses is the premise. Only tests show that one process at a time installs, that another folder at the
-//! path is refused, and which error is noted.
+//! each call. `OsDir` and `LockedDir`, which the tools use, are `DiskDir`s over `SystemDisk`. Each method of
+//! `SystemDisk` is one call of the system with the looks before it, and only its safety is proved: that it keeps the
+//! clauses is the premise. Only tests show that one process at a time installs, that another folder at the path is
+//! refused, and which error is noted.
 #![tactic(auto)]
 
-pub mod claims;
 pub mod disk;
 pub mod failure;
 pub mod lock;
@@ -17,10 +16,9 @@ mod patient;
 mod scratch;
 pub mod system_disk;
 
-pub use claims::{Alone, Claims};
 pub use disk::{Disk, DiskFile, Look};
 pub use failure::{DiskFailure, FailedOn};
-pub use lock::{Locked, Waits};
+pub use lock::{NoWait, Waits};
 pub use os_dir::{DiskDir, FolderError, FolderFault, LockedDir, OsDir, find_folder};
 pub use os_file::OsFile;
-pub use system_disk::{ClaimedDisk, SystemDisk, SystemFile, SystemPath};
+pub use system_disk::{SystemDisk, SystemFile};

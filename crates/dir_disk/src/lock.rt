@@ -1,15 +1,18 @@
 //! Files that are claimed by a lock. Of several processes that make a file under one name one has it, and the others
 //! wait.
-use crate::claims::Claims;
+//!
+//! A file is claimed by an exclusive lock of its first byte. The lock lasts until the file is closed, by this process
+//! or, if that is killed, by the system. A file without a lock was left by a killed process, and is taken away while
+//! this process locks it. Only who may write a file can have such a lock.
 use crate::system_disk::is_same;
 use os::RangeLock;
-use std::fs::{File, Files, OpenOptions, Permissions};
+use std::fs::{File, Files, Metadata, OpenOptions, Permissions};
 use std::io::{self, ErrorKind, Read};
 use std::os::fd::AsRawFd;
 use std::os::unix::fs::{MetadataExt, OpenOptionsExt, PermissionsExt};
 
 /// The permissions of a file that is not complete: no other user can open it, and so lock it.
-const HIDDEN: u32 = 0o600;
+pub(crate) const HIDDEN: u32 = 0o600;
 
 /// The system's errors for a file that another process has, for a folder, for a link, and for anything else that is no
 /// file.
@@ -32,62 +35,47 @@ pub trait Waits {
     fn wait(&mut self) -> bool;
 }
 
-/// A file is claimed by an exclusive lock of its first byte. The lock lasts until the file is closed, by this process
-/// or, if that is killed, by the system. A file without a lock was left by a killed process, and is taken away while
-/// this process locks it. Only who may write a file can have such a lock.
-#[derive(Drop)]
-pub struct Locked<W> {
-    waits: W,
-    // the permissions that a complete file gets, if it was made with others
-    mode: Option<u32>,
-    made: bool,
-}
+/// No wait for another process: its file is a fault.
+#[derive(Clone, Copy)]
+pub struct NoWait;
 
-impl<W> Locked<W> {
-    /// Claims that wait for other processes in this way.
-    pub fn new(waits: W) -> Locked<W> {
-        Locked {
-            waits,
-            mode: None,
-            made: false,
-        }
-    }
-}
-
-impl<R: Files<File = File>, W: Waits> Claims<R> for Locked<W> {
-    fn make(&mut self, files: &R, path: &str, mode: u32) -> io::Result<File> {
-        let mask = read_mask(files);
-        self.mode = mask.map(|mask| mode & !mask);
-        let first = if mask.is_some() { HIDDEN } else { mode };
-        let outcome = match make_held(files, path, first) {
-            Err(error) if is_taken(&error) => match take_free(files, path) {
-                Err(error) if error.kind() != ErrorKind::NotFound => Err(error),
-                _ => make_held(files, path, first),
-            },
-            outcome => outcome,
-        };
-        self.made |= outcome.is_ok();
-        outcome
-    }
-
-    fn complete(&mut self, file: &File) -> io::Result<()> {
-        match self.mode {
-            Some(mode) => match file.set_permissions(Permissions::from_mode(mode)) {
-                Err(error) if !allows(file, mode)? => Err(error),
-                _ => Ok(()),
-            },
-            None => Ok(()),
-        }
-    }
-
-    fn take_away(&mut self, files: &R, path: &str) -> io::Result<()> {
-        take_free(files, path)
-    }
-
-    // (after a file was made, only that file is taken away; if another process has the name by then, nothing is left to
-    // be done)
+impl Waits for NoWait {
     fn wait(&mut self) -> bool {
-        !self.made && self.waits.wait()
+        false
+    }
+}
+
+/// Makes a new file at a path, with these permissions, and claims it. A file that stands there and that no process has
+/// is taken away.
+///
+/// # Errors
+/// `WouldBlock` if another process has the file there, and then nothing is done; others of the system.
+pub(crate) fn make_claimed<R: Files<File = File>>(
+    files: &R,
+    path: &str,
+    mode: u32,
+) -> io::Result<File> {
+    match make_held(files, path, mode) {
+        Err(error) if is_taken(&error) => {}
+        outcome => return outcome,
+    }
+    match take_free(files, path) {
+        Err(error) if error.kind() != ErrorKind::NotFound => Err(error),
+        _ => make_held(files, path, mode),
+    }
+}
+
+/// Gives a file that was made its permissions, if it was made with others: it is complete.
+///
+/// # Errors
+/// Those of the system.
+pub(crate) fn complete(file: &File, mode: Option<u32>) -> io::Result<()> {
+    match mode {
+        Some(mode) => match file.set_permissions(Permissions::from_mode(mode)) {
+            Err(error) if !allows(file, mode)? => Err(error),
+            _ => Ok(()),
+        },
+        None => Ok(()),
     }
 }
 
@@ -101,7 +89,8 @@ fn taken() -> io::Error {
     io::Error::from_raw_os_error(TAKEN)
 }
 
-fn is_taken(error: &io::Error) -> bool {
+/// Whether an error says that another process has a file.
+pub(crate) fn is_taken(error: &io::Error) -> bool {
     error.kind() == ErrorKind::WouldBlock
 }
 
@@ -122,7 +111,7 @@ fn make_held<R: Files<File = File>>(files: &R, path: &str, mode: u32) -> io::Res
         .mode(mode)
         .open(files, path);
     let file = unless_taken(made, ErrorKind::AlreadyExists)?;
-    match hold(files, &file, path) {
+    match hold(files, &file, path, RangeLock::Exclusive) {
         Ok(true) => Ok(file),
         Ok(false) => Err(taken()),
         Err(error) => {
@@ -135,38 +124,46 @@ fn make_held<R: Files<File = File>>(files: &R, path: &str, mode: u32) -> io::Res
     }
 }
 
-// Takes away what stands at a path, if it is a file that no process has. Anything but a file is left there. It has no
-// lock by which two processes could agree which of them takes it away, so one might take away the other's new file.
-fn take_free<R: Files<File = File>>(files: &R, path: &str) -> io::Result<()> {
-    let found = files.symlink_metadata(path)?;
-    if !found.is_file() {
-        let error = match (found.is_dir(), found.is_symlink()) {
-            (true, _) => IS_FOLDER,
-            (_, true) => IS_LINK,
-            _ => INVALID,
-        };
-        return Err(io::Error::from_raw_os_error(error));
-    }
+/// Checks that what was looked at is a file; if not, the error is the system's for such a thing.
+pub(crate) fn check_file(found: &Metadata) -> io::Result<()> {
+    let error = match (found.is_file(), found.is_dir(), found.is_symlink()) {
+        (true, _, _) => return Ok(()),
+        (_, true, _) => IS_FOLDER,
+        (_, _, true) => IS_LINK,
+        _ => INVALID,
+    };
+    Err(io::Error::from_raw_os_error(error))
+}
+
+/// Takes away what stands at a path, if it is a file that no process has. Anything but a file is left there. It has no
+/// lock by which two processes could agree which of them takes it away, so one might take away the other's new file.
+///
+/// # Errors
+/// `NotFound` if nothing stands there; `WouldBlock` if another process has the file; others of the system.
+pub(crate) fn take_free<R: Files<File = File>>(files: &R, path: &str) -> io::Result<()> {
+    check_file(&files.symlink_metadata(path)?)?;
     // (if a pipe was put there meanwhile, opening it to read and write does not wait)
     let opened = OpenOptions::new().read(true).write(true).open(files, path);
     let file = unless_taken(opened, ErrorKind::PermissionDenied)?;
-    if !hold(files, &file, path)? && !is_read_alone(files, &file, path)? {
+    if !hold(files, &file, path, RangeLock::Exclusive)?
+        && !hold(files, &file, path, RangeLock::Shared)?
+    {
         return Err(taken());
     }
     files.remove_file(path)
 }
 
-// Locks a file, if no other process has it, and answers whether it is locked and still stands at its path.
-fn hold<R: Files<File = File>>(files: &R, file: &File, path: &str) -> io::Result<bool> {
-    Ok(lock(file, RangeLock::Exclusive)? && is_at(files, file, path)?)
-}
-
-// Whether a file is locked only by readers, if at all, and still stands at its path. Whoever may read a file can have a
-// shared lock, beside which others can share it too. A process that made a file shares its lock with nobody. (Two
-// processes that find a file so at one moment may both take it away. The second may then take away the new file of the
-// first, whose look before the rename fails.)
-fn is_read_alone<R: Files<File = File>>(files: &R, file: &File, path: &str) -> io::Result<bool> {
-    Ok(lock(file, RangeLock::Shared)? && is_at(files, file, path)?)
+// Locks a file, if no other process has a lock in the way, and answers whether it is locked and still stands at its
+// path. Whoever may read a file can have a shared lock, beside which others can share it too. A process that made a file
+// shares its lock with nobody. (Two processes that find a file so locked at one moment may both take it away. The second
+// may then take away the new file of the first, whose look before the rename fails.)
+fn hold<R: Files<File = File>>(
+    files: &R,
+    file: &File,
+    path: &str,
+    kind: RangeLock,
+) -> io::Result<bool> {
+    Ok(lock(file, kind)? && is_at(files, file, path)?)
 }
 
 // Locks the first byte of a file, if no other process has a lock in the way, and answers whether it is locked.
@@ -190,8 +187,8 @@ fn is_at<R: Files<File = File>>(files: &R, file: &File, path: &str) -> io::Resul
     }
 }
 
-// The permissions that the process masks, if the system says so.
-fn read_mask<R: Files<File = File>>(files: &R) -> Option<u32> {
+/// The permissions that the process masks, if the system says so.
+pub(crate) fn read_mask<R: Files<File = File>>(files: &R) -> Option<u32> {
     let mut start = [0; 256];
     let mut file = OpenOptions::new().read(true).open(files, STATUS).ok()?;
     let count = file.read(&mut start).ok()?;

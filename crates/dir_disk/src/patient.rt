@@ -1,5 +1,5 @@
 //! Calls of a disk, tried again if a signal interrupts them.
-ghost use Rattle.std.specs.Prelude.{◌≡◌, ◌<◌, ◌+◌, ◌^◌, false, IsTrue, None, Some, IsSome, IsErr, IsErrAnd, length, IfErr, OnOk, OnErr};
+ghost use Rattle.std.specs.Prelude.{◌≡◌, ◌≢◌, ◌<◌, ◌+◌, ◌^◌, false, true, slice_get, IfOk, IsTrue, None, Some, IsSome, IsErr, IsErrAnd, length, IfErr, OnOk, OnErr};
 ghost use Rattle.std.specs.Option.{ForSome, option_map};
 ghost use Rattle.std.specs.IoError.{error_kind};
 ghost use Rattle.dir_calls.specs.Directory.{number_of, scratch_of};
@@ -8,6 +8,7 @@ ghost use Rattle.dir_disk.specs.DiskFaults.{OnNotFound};
 ghost use Rattle.dir_disk.specs.DiskSteps.{FindsNone, MayWrite, MovesNoOther, MovesOrNot, RemovesOrNot, SettlesPart, Spoils, StepElapses, after_sync, after_write};
 
 use crate::disk::Disk;
+use dir_calls::Name;
 use std::io::{self, ErrorKind};
 
 /// How often a call is tried again if signals interrupt it.
@@ -41,33 +42,15 @@ fn unless_absent(outcome: io::Result<()>) -> io::Result<()>
     }
 }
 
-/// The fault of a call in a folder that can't be opened.
-pub(crate) fn not_opened() -> io::Error
-    ensures { error_kind result ≡ ErrorKind.Other }
-{
-    io::Error::from(ErrorKind::Other)
-}
-
-/// The folder itself, which is opened if it is not open yet.
-pub(crate) fn opened<'a, D: Disk>(
-    disk: &D,
-    folder: &'a mut Option<D::Folder>,
-) -> Option<&'a D::Folder> {
-    if folder.is_none() {
-        *folder = disk.open_folder().ok();
-    }
-    folder.as_ref()
-}
-
 /// Takes a name away, if it stands.
-pub(crate) fn unlink<D: Disk>(disk: &mut D, folder: &D::Folder, path: &D::Path) -> io::Result<()>
-    ensures done { IsTrue D.honest → OnOk result (D.state disk.new ≡ without (D.state disk.old) (D.named path.now)) }
+pub(crate) fn unlink<D: Disk>(disk: &mut D, name: &Name) -> io::Result<()>
+    ensures done { IsTrue D.honest → OnOk result (D.state disk.new ≡ without (D.state disk.old) name.now) }
     ensures failed { IsTrue D.honest → OnErr result
-        (RemovesOrNot (D.named path.now) (D.state disk.old) (D.state disk.new)) }
+        (RemovesOrNot name.now (D.state disk.old) (D.state disk.new)) }
     ensures time { IsTrue D.honest → StepElapses D.state D.moment D.left_since disk.old disk.new }
 {
     for _ in 0..TRIES {
-        let outcome = disk.unlink(folder, path);
+        let outcome = disk.unlink(name);
         if !was_interrupted(&outcome) {
             return unless_absent(outcome);
         }
@@ -75,43 +58,14 @@ pub(crate) fn unlink<D: Disk>(disk: &mut D, folder: &D::Folder, path: &D::Path) 
     Err(interrupted())
 }
 
-// Moves one name onto another.
-fn rename<D: Disk>(
-    disk: &mut D,
-    folder: &D::Folder,
-    file: &D::Handle,
-    from: &D::Path,
-    to: &D::Path,
-) -> io::Result<()>
-    ensures own { IsTrue D.honest → OnOk result
-        (number_of (D.state disk.old) (D.named from.now) ≡ Some (D.number file.now)) }
-    ensures own_if_moved { IsTrue D.honest → OnErr result
-        (MovesNoOther (Some (D.number file.now)) (D.named from.now) (D.state disk.old) (D.state disk.new)) }
-    ensures done { IsTrue D.honest → OnOk result
-        (D.state disk.new ≡ after (renames (D.named from.now) (D.named to.now)) (D.state disk.old)) }
-    ensures absent { IsTrue D.honest → OnNotFound result
-        (FindsNone (D.named from.now) (D.state disk.old) (D.state disk.new)) }
-    ensures failed { IsTrue D.honest → OnErr result
-        (MovesOrNot (D.named from.now) (D.named to.now) (D.state disk.old) (D.state disk.new)) }
-    ensures time { IsTrue D.honest → StepElapses D.state D.moment D.left_since disk.old disk.new }
-{
-    for _ in 0..TRIES {
-        let outcome = disk.rename(folder, file, from, to);
-        if !was_interrupted(&outcome) {
-            return outcome;
-        }
-    }
-    Err(interrupted())
-}
-
-// Makes all changes of names lasting.
-fn sync_folder<D: Disk>(disk: &mut D, folder: &D::Folder) -> io::Result<()>
+/// Makes all changes of names lasting.
+pub(crate) fn sync_folder<D: Disk>(disk: &mut D) -> io::Result<()>
     ensures done { IsTrue D.honest → OnOk result (D.state disk.new ≡ after settles (D.state disk.old)) }
     ensures failed { IsTrue D.honest → OnErr result (SettlesPart (D.state disk.old) (D.state disk.new)) }
     ensures time { IsTrue D.honest → StepElapses D.state D.moment D.left_since disk.old disk.new }
 {
     for _ in 0..TRIES {
-        let outcome = disk.sync_folder(folder);
+        let outcome = disk.sync_folder();
         if !was_interrupted(&outcome) {
             return outcome;
         }
@@ -119,80 +73,69 @@ fn sync_folder<D: Disk>(disk: &mut D, folder: &D::Folder) -> io::Result<()>
     Err(interrupted())
 }
 
-/// Takes a name away, if it stands, in a folder that is opened if it is not open yet.
-pub(crate) fn remove_name<D: Disk>(
-    disk: &mut D,
-    folder: &mut Option<D::Folder>,
-    path: &D::Path,
-) -> io::Result<()>
-    ensures done { IsTrue D.honest → OnOk result (D.state disk.new ≡ without (D.state disk.old) (D.named path.now)) }
-    ensures failed { IsTrue D.honest → OnErr result
-        (RemovesOrNot (D.named path.now) (D.state disk.old) (D.state disk.new)) }
+// The answer if a name is to be moved and no file was made.
+fn not_made<D: Disk>(disk: &mut D, name: &Name) -> io::Result<()>
+    ensures failed { IsErr result }
+    ensures absent { IsTrue D.honest → OnNotFound result (number_of (D.state disk.old) name.now ≡ None) }
+    ensures same { IsTrue D.honest → D.state disk.new ≡ D.state disk.old }
     ensures time { IsTrue D.honest → StepElapses D.state D.moment D.left_since disk.old disk.new }
 {
-    match opened(disk, folder) {
-        Some(folder) => unlink(disk, folder, path),
-        None => Err(not_opened()),
-    }
-}
-
-// The answer if a name is to be moved and no file was made.
-fn not_made<D: Disk>(disk: &D, path: &D::Path) -> io::Result<()>
-    ensures failed { IsErr result }
-    ensures absent { IsTrue D.honest → OnNotFound result
-        (number_of (D.state disk.now) (D.named path.now) ≡ None) }
-{
-    match is_file(disk, path) {
-        Ok(_) => Err(not_opened()),
+    match open(disk, name) {
+        Ok(_) => Err(io::Error::from(ErrorKind::Other)),
         Err(error) => Err(error),
     }
 }
 
-/// Moves one name onto another, if it stands for the file that was made, in a folder that is opened if it is not open
-/// yet.
-pub(crate) fn move_name<D: Disk>(
+/// Moves one name onto another, if it stands for the file that was made.
+pub(crate) fn rename<D: Disk>(
     disk: &mut D,
-    folder: &mut Option<D::Folder>,
-    made: &Option<D::Handle>,
-    from: &D::Path,
-    to: &D::Path,
+    made: &Option<D::File>,
+    from: &Name,
+    to: &Name,
 ) -> io::Result<()>
     ensures own { IsTrue D.honest → OnOk result
-        (number_of (D.state disk.old) (D.named from.now) ≡ option_map D.number made.now) }
+        (number_of (D.state disk.old) from.now ≡ option_map D.number made.now) }
     ensures own_if_moved { IsTrue D.honest → OnErr result
-        (MovesNoOther (option_map D.number made.now) (D.named from.now) (D.state disk.old) (D.state disk.new)) }
-    ensures found { IsTrue D.honest → OnOk result (IsSome (number_of (D.state disk.old) (D.named from.now))) }
+        (MovesNoOther (option_map D.number made.now) from.now (D.state disk.old) (D.state disk.new)) }
+    ensures found { IsTrue D.honest → OnOk result (IsSome (number_of (D.state disk.old) from.now)) }
     ensures done { IsTrue D.honest → OnOk result
-        (D.state disk.new ≡ after (renames (D.named from.now) (D.named to.now)) (D.state disk.old)) }
+        (D.state disk.new ≡ after (renames from.now to.now) (D.state disk.old)) }
     ensures absent { IsTrue D.honest → OnNotFound result
-        (FindsNone (D.named from.now) (D.state disk.old) (D.state disk.new)) }
+        (FindsNone from.now (D.state disk.old) (D.state disk.new)) }
     ensures failed { IsTrue D.honest → OnErr result
-        (MovesOrNot (D.named from.now) (D.named to.now) (D.state disk.old) (D.state disk.new)) }
+        (MovesOrNot from.now to.now (D.state disk.old) (D.state disk.new)) }
     ensures time { IsTrue D.honest → StepElapses D.state D.moment D.left_since disk.old disk.new }
 {
-    let Some(file) = made else {
-        return not_made(disk, from);
-    };
-    match opened(disk, folder) {
-        Some(folder) => rename(disk, folder, file, from, to),
-        None => Err(not_opened()),
+    match made {
+        Some(file) => move_file(disk, file, from, to),
+        None => not_made(disk, from),
     }
 }
 
-/// Makes all changes of names lasting in a folder that is opened if it is not open yet.
-pub(crate) fn settle<D: Disk>(disk: &mut D, folder: &mut Option<D::Folder>) -> io::Result<()>
-    ensures done { IsTrue D.honest → OnOk result (D.state disk.new ≡ after settles (D.state disk.old)) }
-    ensures failed { IsTrue D.honest → OnErr result (SettlesPart (D.state disk.old) (D.state disk.new)) }
+// Moves one name onto another, if it stands for this file.
+fn move_file<D: Disk>(disk: &mut D, file: &D::File, from: &Name, to: &Name) -> io::Result<()>
+    ensures own { IsTrue D.honest → OnOk result (number_of (D.state disk.old) from.now ≡ Some (D.number file.now)) }
+    ensures own_if_moved { IsTrue D.honest → OnErr result
+        (MovesNoOther (Some (D.number file.now)) from.now (D.state disk.old) (D.state disk.new)) }
+    ensures done { IsTrue D.honest → OnOk result
+        (D.state disk.new ≡ after (renames from.now to.now) (D.state disk.old)) }
+    ensures absent { IsTrue D.honest → OnNotFound result
+        (FindsNone from.now (D.state disk.old) (D.state disk.new)) }
+    ensures failed { IsTrue D.honest → OnErr result
+        (MovesOrNot from.now to.now (D.state disk.old) (D.state disk.new)) }
     ensures time { IsTrue D.honest → StepElapses D.state D.moment D.left_since disk.old disk.new }
 {
-    match opened(disk, folder) {
-        Some(folder) => sync_folder(disk, folder),
-        None => Err(not_opened()),
+    for _ in 0..TRIES {
+        let outcome = disk.rename(file, from, to);
+        if !was_interrupted(&outcome) {
+            return outcome;
+        }
     }
+    Err(interrupted())
 }
 
 /// Makes all that was written to the file that was made last lasting.
-pub(crate) fn sync<D: Disk>(disk: &mut D, file: &D::Handle) -> io::Result<()>
+pub(crate) fn sync<D: Disk>(disk: &mut D, file: &D::File) -> io::Result<()>
     requires may { IsTrue D.honest → (D.state disk.old).scratch ≡ Some (D.number file.now) }
     ensures done { IsTrue D.honest → OnOk result (D.state disk.new ≡ after_sync (D.state disk.old)) }
     ensures failed { IsTrue D.honest → OnErr result (Spoils (D.state disk.old) (D.state disk.new)) }
@@ -210,7 +153,7 @@ pub(crate) fn sync<D: Disk>(disk: &mut D, file: &D::Handle) -> io::Result<()>
 /// Writes all of these bytes from a position on.
 pub(crate) fn write_all<D: Disk>(
     disk: &mut D,
-    file: &D::Handle,
+    file: &D::File,
     position: u64,
     bytes: &[u8],
 ) -> io::Result<()>
@@ -240,15 +183,22 @@ pub(crate) fn write_all<D: Disk>(
     Err(interrupted())
 }
 
-/// Whether what stands under a name is a file.
-pub(crate) fn is_file<D: Disk>(disk: &D, path: &D::Path) -> io::Result<bool>
-    ensures absent { IsTrue D.honest → OnNotFound result
-        (number_of (D.state disk.now) (D.named path.now) ≡ None) }
+/// Opens what stands under a name to read it, unless it is no file.
+pub(crate) fn open<D: Disk>(disk: &mut D, name: &Name) -> io::Result<D::File>
+    ensures opened { IsTrue D.honest → IfOk result (λ file.
+        number_of (D.state disk.old) name.now ≡ Some (D.number file)) }
+    ensures read { IsTrue D.honest → IfOk result (λ file.
+        D.regular file ≡ true → (D.state disk.old).scratch ≢ Some (D.number file)
+        → option_map (λ stands. stands.bytes) (slice_get (D.state disk.old).files (D.number file))
+        ≡ Some (D.File.bytes file)) }
+    ensures absent { IsTrue D.honest → OnNotFound result (number_of (D.state disk.old) name.now ≡ None) }
+    ensures same { IsTrue D.honest → D.state disk.new ≡ D.state disk.old }
+    ensures time { IsTrue D.honest → StepElapses D.state D.moment D.left_since disk.old disk.new }
 {
     for _ in 0..TRIES {
-        match disk.is_file(path) {
-            Err(error) if error.kind() == ErrorKind::Interrupted => {}
-            outcome => return outcome,
+        let outcome = disk.open(name);
+        if !was_interrupted(&outcome) {
+            return outcome;
         }
     }
     Err(interrupted())

@@ -9,6 +9,7 @@ ghost use Rattle.dir_disk.specs.OsDir.{GivesUp, Holds, IsWritable, KeptElapses, 
 
 use crate::disk::Disk;
 use crate::patient::{sync, unlink, write_all};
+use dir_calls::Name;
 use std::io;
 
 /// How many bytes are kept back until they are written. Each write but the last has this many.
@@ -22,10 +23,10 @@ const MODE: u32 = 0o644;
 /// file and its new length. If the write fails, the file is closed.
 pub(crate) fn write_kept<D: Disk>(
     disk: &mut D,
-    file: D::Handle,
+    file: D::File,
     written: u64,
     pending: &mut Vec<u8>,
-) -> io::Result<(D::Handle, u64)>
+) -> io::Result<(D::File, u64)>
     requires writable { IsTrue D.honest → IsWritable (D.state disk.old) (D.number file) written }
     ensures kept { IsTrue D.honest → OnOk result
         (kept_back [] (D.state disk.new) ≡ kept_back pending.old.items (D.state disk.old)) }
@@ -53,10 +54,10 @@ pub(crate) fn write_kept<D: Disk>(
 /// write fails, the file is closed.
 pub(crate) fn make_room<D: Disk>(
     disk: &mut D,
-    file: D::Handle,
+    file: D::File,
     written: u64,
     pending: &mut Vec<u8>,
-) -> io::Result<(D::Handle, u64)>
+) -> io::Result<(D::File, u64)>
     requires writable { IsTrue D.honest → IsWritable (D.state disk.old) (D.number file) written }
     ensures kept { IsTrue D.honest → OnOk result
         (kept_back pending.new.items (D.state disk.new) ≡ kept_back pending.old.items (D.state disk.old)) }
@@ -74,12 +75,12 @@ pub(crate) fn make_room<D: Disk>(
 /// Writes the bytes that are kept back, and then overwrites bytes inside the file.
 pub(crate) fn overwrite<D: Disk>(
     disk: &mut D,
-    file: D::Handle,
+    file: D::File,
     written: u64,
     pending: &mut Vec<u8>,
     position: u64,
     bytes: &[u8],
-) -> io::Result<(D::Handle, u64)>
+) -> io::Result<(D::File, u64)>
     requires writable { IsTrue D.honest → IsWritable (D.state disk.old) (D.number file) written }
     requires inside { IsTrue D.honest → position + length bytes.now ≤ written + length pending.old.items }
     ensures done { IsTrue D.honest → OnOk result (kept_back [] (D.state disk.new)
@@ -103,10 +104,10 @@ pub(crate) fn overwrite<D: Disk>(
 /// last.
 pub(crate) fn sync_kept<D: Disk>(
     disk: &mut D,
-    file: D::Handle,
+    file: D::File,
     written: u64,
     pending: &mut Vec<u8>,
-    made: &mut Option<D::Handle>,
+    made: &mut Option<D::File>,
 ) -> io::Result<()>
     requires writable { IsTrue D.honest → IsWritable (D.state disk.old) (D.number file) written }
     ensures done { IsTrue D.honest → OnOk result
@@ -126,7 +127,7 @@ pub(crate) fn sync_kept<D: Disk>(
 /// Writes the bytes that are kept back, and closes the file, which stays unsynced.
 pub(crate) fn let_go<D: Disk>(
     disk: &mut D,
-    scratch: Option<D::Handle>,
+    scratch: Option<D::File>,
     written: u64,
     pending: &mut Vec<u8>,
 ) -> io::Result<()>
@@ -147,7 +148,7 @@ pub(crate) fn let_go<D: Disk>(
 }
 
 /// Closes the scratch file, if there is one. What is kept back of its bytes is not written.
-pub(crate) fn give_up<D: Disk>(disk: &mut D, scratch: Option<D::Handle>)
+pub(crate) fn give_up<D: Disk>(disk: &mut D, scratch: Option<D::File>)
     requires { IsTrue D.honest → (D.state disk.old).scratch ≡ option_map D.number scratch }
     ensures done { IsTrue D.honest → D.state disk.new ≡ closed (D.state disk.old) }
     ensures time { IsTrue D.honest → StepElapses D.state D.moment D.left_since disk.old disk.new }
@@ -158,49 +159,44 @@ pub(crate) fn give_up<D: Disk>(disk: &mut D, scratch: Option<D::Handle>)
 }
 
 /// Makes a new file in the place of what stood there.
-pub(crate) fn make_file<D: Disk>(
-    disk: &mut D,
-    folder: &D::Folder,
-    path: &D::Path,
-) -> io::Result<D::Handle>
+pub(crate) fn make_file<D: Disk>(disk: &mut D, name: &Name) -> io::Result<D::File>
     requires { IsTrue D.honest → (D.state disk.old).scratch ≡ None }
     ensures done { IsTrue D.honest → OnOk result
-        (D.state disk.new ≡ after (makes (D.named path.now)) (D.state disk.old)) }
+        (D.state disk.new ≡ after (makes name.now) (D.state disk.old)) }
     ensures writable { IsTrue D.honest → IfOk result (λ file. IsWritable (D.state disk.new) (D.number file) 0) }
     ensures failed { IsTrue D.honest → OnErr result
-        (Fails (makes (D.named path.now)) (D.state disk.old) (D.state disk.new)) }
+        (Fails (makes name.now) (D.state disk.old) (D.state disk.new)) }
     ensures closed { IsTrue D.honest → OnErr result ((D.state disk.new).scratch ≡ None) }
     ensures time { IsTrue D.honest
-        → CallElapses D.state D.moment D.left_since (makes (D.named path.now)) disk.old disk.new }
+        → CallElapses D.state D.moment D.left_since (makes name.now) disk.old disk.new }
     ensures within { IsTrue D.honest → OnOk result
-        (CallIncludes D.state D.moment D.left_since (makes (D.named path.now)) disk.old disk.new) }
+        (CallIncludes D.state D.moment D.left_since (makes name.now) disk.old disk.new) }
 {
-    unlink(disk, folder, path)?;
-    disk.create(folder, path, MODE)
+    unlink(disk, name)?;
+    disk.create(name, MODE)
 }
 
 /// Lets the scratch file go, and makes a new one.
 pub(crate) fn renew<D: Disk>(
     disk: &mut D,
-    folder: &D::Folder,
-    path: &D::Path,
-    scratch: Option<D::Handle>,
+    name: &Name,
+    scratch: Option<D::File>,
     written: u64,
     pending: &mut Vec<u8>,
-) -> io::Result<D::Handle>
+) -> io::Result<D::File>
     requires holds { IsTrue D.honest → Holds D.number (D.state disk.old) scratch written }
     ensures done { IsTrue D.honest → OnOk result (D.state disk.new
-        ≡ after (makes (D.named path.now)) (kept_back pending.old.items (D.state disk.old))) }
+        ≡ after (makes name.now) (kept_back pending.old.items (D.state disk.old))) }
     ensures empty { OnOk result (pending.new.items ≡ []) }
     ensures writable { IsTrue D.honest → IfOk result (λ file. IsWritable (D.state disk.new) (D.number file) 0) }
     ensures failed { IsTrue D.honest → OnErr result
-        (Fails (makes (D.named path.now)) (kept_back pending.old.items (D.state disk.old)) (D.state disk.new)) }
+        (Fails (makes name.now) (kept_back pending.old.items (D.state disk.old)) (D.state disk.new)) }
     ensures closed { IsTrue D.honest → OnErr result ((D.state disk.new).scratch ≡ None) }
-    ensures time { IsTrue D.honest → KeptElapses D.state D.moment D.left_since (makes (D.named path.now))
+    ensures time { IsTrue D.honest → KeptElapses D.state D.moment D.left_since (makes name.now)
         pending.old.items disk.old disk.new }
     ensures within { IsTrue D.honest → OnOk result (KeptIncludes D.state D.moment D.left_since
-        (makes (D.named path.now)) pending.old.items disk.old disk.new) }
+        (makes name.now) pending.old.items disk.old disk.new) }
 {
     let_go(disk, scratch, written, pending)?;
-    make_file(disk, folder, path)
+    make_file(disk, name)
 }

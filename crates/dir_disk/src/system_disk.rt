@@ -3,14 +3,18 @@ ghost use Rattle.std.specs.Prelude.{◌≡◌, [], ⊤, true, false, refl, IfOk}
 ghost use Rattle.dir_calls.specs.NoDirectory.{no_directory, not_honest};
 ghost use Rattle.dir_disk.specs.OsParts.{system_folder};
 
-use crate::claims::{Alone, Claims};
 use crate::disk::{Disk, DiskFile, Look};
-use crate::failure::{DiskFailure, FailedOn, FileNotes, Notes};
+use crate::failure::{FailedOn, Notes, store};
+use crate::lock::{
+    HIDDEN, Waits, check_file, complete, is_taken, make_claimed, read_mask, take_free,
+};
 use dir_calls::Name;
 use std::alloc::{AllocError, Global};
-use std::fs::{Files, Metadata, OpenFile, OpenOptions};
+use std::fs::{File, Files, Metadata, OpenOptions};
 use std::io::{self, ErrorKind};
 use std::os::unix::fs::{FileExt, MetadataExt};
+use std::sync::Arc;
+use std::sync::atomic::AtomicU32;
 
 /// How many bytes a slash and a name have at most.
 const LONGEST: usize = 256;
@@ -18,140 +22,181 @@ const LONGEST: usize = 256;
 /// How often a name is tried for that another process has: more often than there is time for.
 const TRIES: u32 = 1_000_000;
 
-/// The system's errors: for a file of a folder that is gone, for what is no folder, for a folder in the place of a
-/// file, and for arguments of which a call can't be made.
+/// The system's errors: for a file of a folder that is gone, and for what is no folder.
 const STALE: i32 = 116;
 
 const NO_FOLDER: i32 = 20;
 
-const IS_FOLDER: i32 = 21;
-
-const INVALID: i32 = 22;
-
 /// A folder of the system. Each call is one of std's, which makes one of the system's and passes on its answer. Nothing
 /// is known of the system: that it does what `Disk` says is the premise of all that stands on it.
 ///
-/// Before each change of a name, and before the folder is synced, the folder that was opened is compared with what
+/// Std has no calls by a folder's descriptor, so each call is by the path. The folder is opened once, before the first
+/// change of a name; if it can't be opened for reading, nothing has changed. Before each change of a name, and before
+/// names are made lasting, the disk compares the folder that it opened with what
 /// stands at its path now. If that is another folder, because a link on the way was changed, the call fails and nothing
 /// changes. A file that is to be renamed is compared in the same way with what stands under its name. Between such a
 /// look and the call itself the path may still be changed.
 ///
-/// Its `Claims` make files and take them away. If another process has the name, they say whether to wait for it.
+/// Several processes may make files under one name. A process claims a file by its lock, and `waits` says how long the
+/// others wait for it. No call takes memory.
 #[derive(Drop)]
-pub struct ClaimedDisk<R: Files + Drop, C: Drop> {
+pub struct SystemDisk<R: Drop, W: Drop> {
     files: R,
+    waits: W,
     folder: String,
-    claims: C,
-    notes: Notes,
+    // the folder itself, once it is opened
+    opened: Option<File>,
+    // room for the paths of a call
+    path: String,
+    onto: String,
+    // the permissions that the file which was made last gets once it is complete, if it was made with others
+    mode: Option<u32>,
+    // whether this process made a file
+    made: bool,
+    pub(crate) notes: Notes,
 }
 
-/// A folder of the system in which no other process is known to make files.
-pub type SystemDisk<R> = ClaimedDisk<R, Alone>;
-
-/// The path of a name in a folder of the system.
+/// A file of the system.
 #[derive(Drop)]
-pub struct SystemPath {
-    text: String,
-    // whether there was room for it; there is for each name
-    whole: bool,
+pub struct SystemFile {
+    file: File,
+    // where it is noted how a read ended
+    noted: Option<Arc<AtomicU32, Global>>,
 }
 
-impl SystemPath {
-    // its text, if there was room
-    fn text(&self) -> Option<&str> {
-        if self.whole {
-            Some(self.text.as_str())
-        } else {
-            None
-        }
-    }
-
-    fn put(&mut self, folder: &str, name: &str) -> Result<(), AllocError> {
-        self.text.clear();
-        self.text.push_str(folder)?;
-        self.text.push_str("/")?;
-        self.text.push_str(name)
-    }
+// Puts the path of a name in a folder into the room for one, which is enough for any name.
+fn put_path(path: &mut String, folder: &str, name: &Name) -> Result<(), AllocError> {
+    path.clear();
+    path.push_str(folder)?;
+    path.push_str("/")?;
+    path.push_str(name.as_str())
 }
 
-// The error of a call for whose path there was no room.
-fn no_room() -> io::Error {
+// The error of a call that was tried too often.
+fn no_more() -> io::Error {
     io::Error::from(ErrorKind::OutOfMemory)
 }
 
-/// A file of the system, opened to be read.
-#[derive(Drop)]
-pub struct SystemFile<F: FileExt + Drop> {
-    file: F,
-    notes: Option<FileNotes>,
-}
-
-impl<R: Files + Drop, C: Drop> ClaimedDisk<R, C> {
-    /// The folder at a path.
-    pub(crate) fn new(alloc: Global, files: R, claims: C, folder: &str) -> Result<Self, AllocError>
+impl<R: Files<File = File> + Drop, W: Waits + Drop> SystemDisk<R, W> {
+    /// The folder at a path. The system is not called.
+    pub(crate) fn new(alloc: Global, files: R, waits: W, folder: &str) -> Result<Self, AllocError>
         ensures folder { IfOk result (λ disk. system_folder disk ≡ folder.now) }
     {
-        Ok(ClaimedDisk {
+        let length = folder.len().saturating_add(LONGEST);
+        Ok(SystemDisk {
             files,
+            waits,
             folder: String::from_str(alloc, folder)?,
-            claims,
+            opened: None,
+            path: String::with_capacity(alloc, length)?,
+            onto: String::with_capacity(alloc, length)?,
+            mode: None,
+            made: false,
             notes: Notes::new(alloc)?,
         })
     }
 
-    /// The last call of the system, if it failed; a read of an opened file counts too. From it the cause of a fault is
-    /// told. Taking a file away after a failure leaves that failure noted.
-    pub fn failure(&self) -> Option<DiskFailure> {
-        self.notes.last()
-    }
-
-    // Notes what stands in the place of a file, by the system's error for such a thing.
-    fn note_kind(&self, found: &Metadata) {
-        if !found.is_file() {
-            let error = if found.is_dir() { IS_FOLDER } else { INVALID };
-            let _ = self.note::<()>(FailedOn::Name, Err(io::Error::from_raw_os_error(error)));
+    // Opens the folder. A folder that can't be opened is an error of no other meaning.
+    fn open_folder(&self) -> io::Result<File> {
+        let path = self.folder.as_str();
+        let outcome = match self.files.metadata(path) {
+            Ok(found) if found.is_dir() => OpenOptions::new().read(true).open(&self.files, path),
+            Ok(_) => Err(io::Error::from_raw_os_error(NO_FOLDER)),
+            Err(error) => Err(error),
+        };
+        match self.notes.note(FailedOn::Folder, outcome) {
+            Ok(folder) => Ok(folder),
+            Err(_) => Err(io::Error::from(ErrorKind::Other)),
         }
     }
 
-    // Notes how a call ended, and passes its answer on.
-    fn note<T>(&self, on: FailedOn, outcome: io::Result<T>) -> io::Result<T>
-        ensures { result ≡ outcome }
-    {
-        self.notes.note(on, outcome)
+    // Checks that the folder which was opened still stands at its path.
+    fn see_folder(&mut self) -> io::Result<()> {
+        let folder = match self.opened.take() {
+            Some(folder) => folder,
+            None => self.open_folder()?,
+        };
+        let same = check_same(folder.metadata(), self.files.metadata(self.folder.as_str()));
+        self.opened = Some(folder);
+        self.notes.note(FailedOn::Folder, same)
     }
 
-    // Whether the folder that was opened still stands at its path.
-    fn same_folder(&self, folder: &R::File) -> io::Result<()> {
-        is_same(folder.metadata(), self.files.metadata(self.folder.as_str())).and_then(unless_other)
-    }
-
-    // Checks that it does.
-    fn sees_same(&self, folder: &R::File) -> io::Result<()> {
-        self.note(FailedOn::Folder, self.same_folder(folder))
-    }
-
-    // Checks that an opened file is what stands at a path.
-    fn sees_file(&self, file: &R::File, path: &str) -> io::Result<()> {
-        let same = is_same(file.metadata(), self.files.symlink_metadata(path));
-        self.note(FailedOn::Name, same.and_then(unless_other))
-    }
-}
-
-impl<R: Files + Drop, C: Claims<R> + Drop> ClaimedDisk<R, C> {
-    // Whether to try a call again after it found that another process has the name.
-    fn waits<T>(&mut self, outcome: &io::Result<T>) -> bool {
-        match outcome {
-            Err(error) => error.kind() == ErrorKind::WouldBlock && self.claims.wait(),
+    // The answer of a call that makes a file or takes one away, as it is noted. There is none if another process has
+    // the name and the call is to be tried again. After a file was made, only that file is taken away: if another
+    // process has the name by then, nothing is left to be done.
+    fn answer<T: Drop>(&mut self, outcome: io::Result<T>) -> Option<io::Result<T>> {
+        let taken = match &outcome {
+            Err(error) => is_taken(error),
             Ok(_) => false,
+        };
+        if taken && !self.made && self.waits.wait() {
+            return None;
         }
+        let on = if taken {
+            FailedOn::Folder
+        } else {
+            FailedOn::Name
+        };
+        Some(self.notes.note(on, outcome))
     }
-}
 
-// What a call that makes a file or takes one away is about.
-fn about<T>(outcome: &io::Result<T>) -> FailedOn {
-    match outcome {
-        Err(error) if error.kind() == ErrorKind::WouldBlock => FailedOn::Folder,
-        _ => FailedOn::Name,
+    // Takes away what stands under a name.
+    fn take_away(&mut self, name: &Name) -> io::Result<()> {
+        put_path(&mut self.path, self.folder.as_str(), name)?;
+        for _ in 0..TRIES {
+            self.see_folder()?;
+            let outcome = take_free(&self.files, self.path.as_str());
+            if let Some(outcome) = self.answer(outcome) {
+                return outcome;
+            }
+        }
+        Err(no_more())
+    }
+
+    // Makes a file under a name.
+    fn make(&mut self, name: &Name, mode: u32) -> io::Result<File> {
+        put_path(&mut self.path, self.folder.as_str(), name)?;
+        for _ in 0..TRIES {
+            self.see_folder()?;
+            let outcome = self.make_hidden(mode);
+            if let Some(outcome) = self.answer(outcome) {
+                return outcome;
+            }
+        }
+        Err(no_more())
+    }
+
+    // Makes a file at the path. Until it is complete no other user can open it, if it is known what the process masks.
+    fn make_hidden(&mut self, mode: u32) -> io::Result<File> {
+        let mut first = mode;
+        self.mode = None;
+        if let Some(mask) = read_mask(&self.files) {
+            first = HIDDEN;
+            self.mode = Some(mode & !mask);
+        }
+        let outcome = make_claimed(&self.files, self.path.as_str(), first);
+        self.made |= outcome.is_ok();
+        outcome
+    }
+
+    // Moves one name onto another, if it stands for this file.
+    fn move_file(&mut self, file: &File, from: &Name, to: &Name) -> io::Result<()> {
+        put_path(&mut self.path, self.folder.as_str(), from)?;
+        put_path(&mut self.onto, self.folder.as_str(), to)?;
+        self.see_folder()?;
+        let path = self.path.as_str();
+        let same = check_same(file.metadata(), self.files.symlink_metadata(path));
+        self.notes.note(FailedOn::Name, same)?;
+        let outcome = self.files.rename(path, self.onto.as_str());
+        self.notes.note(FailedOn::Onto, outcome)
+    }
+
+    // Opens the file under a name. It is looked at first, so that a pipe holds nobody up.
+    fn open_file(&mut self, name: &Name) -> io::Result<File> {
+        put_path(&mut self.path, self.folder.as_str(), name)?;
+        let path = self.path.as_str();
+        check_file(&self.files.metadata(path)?)?;
+        OpenOptions::new().read(true).open(&self.files, path)
     }
 }
 
@@ -164,41 +209,43 @@ pub(crate) fn is_same(
     Ok(opened.dev() == stands.dev() && opened.ino() == stands.ino())
 }
 
-// Another folder at the path is reported by the system's error for a folder that is gone.
-fn unless_other(same: bool) -> io::Result<()> {
-    if same {
+// Checks that it is. Something else is reported by the system's error for a file of a folder that is gone.
+fn check_same(opened: io::Result<Metadata>, stands: io::Result<Metadata>) -> io::Result<()> {
+    if is_same(opened, stands)? {
         Ok(())
     } else {
         Err(io::Error::from_raw_os_error(STALE))
     }
 }
 
+// What a look at an opened file answers, if it is a file.
+fn look_at(file: &File) -> io::Result<Look> {
+    let found = file.metadata()?;
+    check_file(&found)?;
+    Ok(Look {
+        len: found.len(),
+        device: found.dev(),
+        inode: found.ino(),
+    })
+}
+
 /// Nothing is known of a file of the system.
-impl<F: FileExt + Drop> DiskFile for SystemFile<F> {
+impl DiskFile for SystemFile {
     ghost bytes = { λ _. [] };
 
     ghost honest = { false };
 
     fn read_at(&self, position: u64, buf: &mut [u8]) -> io::Result<usize> {
         let outcome = self.file.read_at(buf, position);
-        if let Some(notes) = &self.notes {
-            notes.note(&outcome);
+        if let Some(noted) = &self.noted {
+            store(noted, &outcome);
         }
         outcome
     }
 }
 
-impl<R: Files + Drop, C: Claims<R> + Drop> Disk for ClaimedDisk<R, C>
-where
-    R::File: FileExt,
-{
-    type Path = SystemPath;
-
-    type Folder = R::File;
-
-    type Handle = R::File;
-
-    type File = SystemFile<R::File>;
+impl<R: Files<File = File> + Drop, W: Waits + Drop> Disk for SystemDisk<R, W> {
+    type File = SystemFile;
 
     ghost state = { λ _. no_directory };
 
@@ -208,13 +255,9 @@ where
 
     ghost left_since = { λ _ _ _. ⊤ };
 
-    ghost named = { λ _. [] };
-
     ghost number = { λ _. 0 };
 
     ghost regular = { λ _. true };
-
-    ghost known = { λ _ _. ⊤ };
 
     ghost identity = { λ _. (0, 0) };
 
@@ -224,126 +267,57 @@ where
 
     ghost honest_files = { refl };
 
-    fn room(&self, alloc: Global) -> Result<SystemPath, AllocError> {
-        let length = self.folder.len().saturating_add(LONGEST);
-        Ok(SystemPath {
-            text: String::with_capacity(alloc, length)?,
-            whole: false,
-        })
-    }
-
-    fn put_path(&self, path: &mut SystemPath, name: &Name) {
-        path.whole = path.put(self.folder.as_str(), name.as_str()).is_ok();
-    }
-
-    fn open_folder(&self) -> io::Result<R::File> {
-        let found = self.note(FailedOn::Folder, self.files.metadata(self.folder.as_str()))?;
-        if !found.is_dir() {
-            return self.note(
-                FailedOn::Folder,
-                Err(io::Error::from_raw_os_error(NO_FOLDER)),
-            );
-        }
-        let outcome = OpenOptions::new()
-            .read(true)
-            .open(&self.files, self.folder.as_str());
-        self.note(FailedOn::Folder, outcome)
-    }
-
-    fn sync_folder(&mut self, folder: &R::File) -> io::Result<()> {
-        self.sees_same(folder)?;
-        self.note(FailedOn::Folder, folder.sync_all())
-    }
-
-    fn unlink(&mut self, folder: &R::File, path: &SystemPath) -> io::Result<()> {
-        let Some(path) = path.text() else {
-            return self.notes.note_first(FailedOn::Name, Err(no_room()));
+    fn sync_folder(&mut self) -> io::Result<()> {
+        self.see_folder()?;
+        let outcome = match &self.opened {
+            Some(folder) => folder.sync_all(),
+            None => Err(io::Error::from_raw_os_error(STALE)),
         };
-        for _ in 0..TRIES {
-            let same = self.same_folder(folder);
-            self.notes.note_first(FailedOn::Folder, same)?;
-            let outcome = self.claims.take_away(&self.files, path);
-            if !self.waits(&outcome) {
-                return self.notes.note_first(about(&outcome), outcome);
-            }
-        }
-        Err(no_room())
+        self.notes.note(FailedOn::Folder, outcome)
     }
 
-    fn create(&mut self, folder: &R::File, path: &SystemPath, mode: u32) -> io::Result<R::File> {
-        let Some(path) = path.text() else {
-            return self.note(FailedOn::Name, Err(no_room()));
+    // (a failure that is noted already stays noted)
+    fn unlink(&mut self, name: &Name) -> io::Result<()> {
+        let failure = self.notes.last();
+        let outcome = self.take_away(name);
+        self.notes.keep(failure);
+        outcome
+    }
+
+    fn create(&mut self, name: &Name, mode: u32) -> io::Result<SystemFile> {
+        let file = self.make(name, mode)?;
+        Ok(SystemFile { file, noted: None })
+    }
+
+    fn write_at(&mut self, file: &SystemFile, position: u64, bytes: &[u8]) -> io::Result<usize> {
+        self.notes
+            .note(FailedOn::Name, file.file.write_at(bytes, position))
+    }
+
+    fn sync(&mut self, file: &SystemFile) -> io::Result<()> {
+        let outcome = match complete(&file.file, self.mode) {
+            Ok(()) => file.file.sync_all(),
+            failed => failed,
         };
-        for _ in 0..TRIES {
-            self.sees_same(folder)?;
-            let outcome = self.claims.make(&self.files, path, mode);
-            if !self.waits(&outcome) {
-                return self.note(about(&outcome), outcome);
-            }
-        }
-        Err(no_room())
+        self.notes.note(FailedOn::Name, outcome)
     }
 
-    fn write_at(&mut self, file: &R::File, position: u64, bytes: &[u8]) -> io::Result<usize> {
-        self.note(FailedOn::Name, file.write_at(bytes, position))
+    fn close(&mut self, _file: &SystemFile) {}
+
+    fn rename(&mut self, file: &SystemFile, from: &Name, to: &Name) -> io::Result<()> {
+        self.move_file(&file.file, from, to)
     }
 
-    fn sync(&mut self, file: &R::File) -> io::Result<()> {
-        let complete = self.claims.complete(file);
-        self.note(FailedOn::Name, complete)?;
-        self.note(FailedOn::Name, file.sync_all())
-    }
-
-    fn close(&mut self, _file: &R::File) {}
-
-    fn rename(
-        &mut self,
-        folder: &R::File,
-        file: &R::File,
-        from: &SystemPath,
-        to: &SystemPath,
-    ) -> io::Result<()> {
-        self.sees_same(folder)?;
-        let (Some(from), Some(to)) = (from.text(), to.text()) else {
-            return self.note(FailedOn::Onto, Err(no_room()));
-        };
-        self.sees_file(file, from)?;
-        self.note(FailedOn::Onto, self.files.rename(from, to))
-    }
-
-    fn is_file(&self, path: &SystemPath) -> io::Result<bool> {
-        let outcome = match path.text() {
-            Some(path) => self.files.metadata(path),
-            None => Err(no_room()),
-        };
-        let found = self.note(FailedOn::Name, outcome)?;
-        self.note_kind(&found);
-        Ok(found.is_file())
-    }
-
-    fn open(&self, path: &SystemPath) -> io::Result<R::File> {
-        let outcome = match path.text() {
-            Some(path) => OpenOptions::new().read(true).open(&self.files, path),
-            None => Err(no_room()),
-        };
-        self.note(FailedOn::Name, outcome)
-    }
-
-    fn look(&self, file: &R::File) -> io::Result<Look> {
-        let found = self.note(FailedOn::Name, file.metadata())?;
-        self.note_kind(&found);
-        Ok(Look {
-            is_file: found.is_file(),
-            len: found.len(),
-            device: found.dev(),
-            inode: found.ino(),
-        })
-    }
-
-    fn reading(&self, file: R::File) -> SystemFile<R::File> {
-        SystemFile {
+    fn open(&mut self, name: &Name) -> io::Result<SystemFile> {
+        let outcome = self.open_file(name);
+        let file = self.notes.note(FailedOn::Name, outcome)?;
+        Ok(SystemFile {
             file,
-            notes: self.notes.of_file(),
-        }
+            noted: self.notes.of_file(),
+        })
+    }
+
+    fn look(&self, file: &SystemFile) -> io::Result<Look> {
+        self.notes.note(FailedOn::Name, look_at(&file.file))
     }
 }

@@ -47,11 +47,3 @@ pub record IsRespelled (cdb tmp path : List ℕ) : Type 0 where
   pub of_cdb : IsSplit cdb folder first
   pub of_tmp : IsSplit tmp other name
   pub parts : IsSplit path folder name
-
--- the folder of two paths with which nothing is wrong
-pub record IsFolderOf (cdb tmp folder : List ℕ) : Type 0 where
-  pub other : List ℕ
-  pub names : NamePair
-  pub first : IsSplit cdb folder names.cdb
-  pub second : IsSplit tmp other names.tmp
-  pub good : paths_fault folder other names ≡ None

@@ -3,6 +3,8 @@ use Rattle.std.specs.Prelude.{◌≡◌, ◌⊎◌, ⊤, ℤ, ℕ, List, Option,
 use Rattle.std.specs.Io.KnownBytes.{Appends}
 use Rattle.dir_calls.specs.Directory.{Directory, content}
 use Rattle.dir_calls.specs.Names.{name_fault}
+use Rattle.dir_disk.specs.declared.os_dir.FolderFault.{FolderFault}
+use Rattle.dir_disk.specs.declared.os_dir.FolderFault.TheVariants as folder
 use Rattle.rule_lookup.specs.Answers.{answer_lines}
 use Rattle.rule_lookup.specs.declared.decision.Decision.{Decision}
 use Rattle.rule_lookup.specs.Peers.{Client}
@@ -48,6 +50,12 @@ abbrev pub NameFails : List ℕ → CheckFault → Type 0
 NameFails name NoFile = IsSome (name_fault name)
 NameFails name OutOfMemory = ⊤
 NameFails name fault = ⊥
+
+-- what is told of a folder that can't be used: where none stands there is no file
+abbrev pub told_folder : FolderFault → CheckFault
+told_folder folder.NoFolder = NoFile
+told_folder folder.Device = Device
+told_folder folder.OutOfMemory = OutOfMemory
 
 pub record FailsAt (stands : DirectoriesByPath) (path : List ℕ) (peer : Client) (fault : CheckFault) : Type 0 where
   pub folder : List ℕ

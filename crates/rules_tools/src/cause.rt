@@ -33,26 +33,20 @@ impl ErrorCause {
     pub(crate) fn of(of: CauseOf, error: Option<i32>) -> Option<ErrorCause>
         ensures { result ≡ cause_of of error }
     {
-        error.map(|error| ErrorCause { of, error })
+        match error {
+            Some(error) => Some(ErrorCause { of, error }),
+            None => None,
+        }
     }
 
-    /// The cause of a call of an installation that failed: it names no file but the scratch file, and moves that onto the rules file.
-    pub(crate) fn of_installation(failure: Option<DiskFailure>) -> Option<ErrorCause> {
+    /// The cause of a call of a folder that failed. `named` is the only file that such calls name, and if they move it,
+    /// they move it onto the rules file.
+    pub(crate) fn of_call(named: CauseOf, failure: Option<DiskFailure>) -> Option<ErrorCause> {
         let failure = failure?;
         let of = match failure.on {
             FailedOn::Folder => CauseOf::Folder,
-            FailedOn::Name => CauseOf::Scratch,
+            FailedOn::Name => named,
             FailedOn::Onto => CauseOf::Rules,
-        };
-        ErrorCause::of(of, Some(failure.error))
-    }
-
-    /// The cause of a call of a look-up that failed: it names no file but the rules file.
-    pub(crate) fn of_look_up(failure: Option<DiskFailure>) -> Option<ErrorCause> {
-        let failure = failure?;
-        let of = match failure.on {
-            FailedOn::Folder => CauseOf::Folder,
-            FailedOn::Name | FailedOn::Onto => CauseOf::Rules,
         };
         ErrorCause::of(of, Some(failure.error))
     }

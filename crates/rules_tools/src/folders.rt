@@ -7,12 +7,12 @@ ghost use Rattle.rules_tools.specs.declared.cause.ErrorCause.{ErrorCause};
 use crate::cause::{CauseOf, ErrorCause};
 use crate::waiting::Waiting;
 use dir_calls::{ClearableDir, Dir};
-use dir_disk::{FolderError, FolderFault, LockedDir, OsDir};
+use dir_disk::{FolderError, FolderFault, LockedDir, NoWait, OsDir, find_folder};
 use std::alloc::{AllocError, Global};
 use std::cell::Cell;
 use std::fs::{File, Files};
 use std::io::Write;
-use std::os::unix::fs::{FileExt, MetadataExt};
+use std::os::unix::fs::MetadataExt;
 use std::time::Clock;
 
 /// Folders by their paths.
@@ -100,10 +100,7 @@ impl<'a, S, E> SystemFolders<'a, S, E> {
     }
 }
 
-impl<'a, S: Files, E> Folders for SystemFolders<'a, S, E>
-where
-    S::File: FileExt,
-{
+impl<'a, S: Files<File = File>, E> Folders for SystemFolders<'a, S, E> {
     type Folder = OsDir<&'a S>;
 
     ghost stands = { λ _ _. None };
@@ -115,17 +112,18 @@ where
     ghost honest_folders = { not_honest };
 
     fn find(&mut self, alloc: Global, path: &str) -> Result<OsDir<&'a S>, FolderFault> {
-        match OsDir::find(alloc, self.system, path) {
+        if let Err(FolderError { fault, error }) = find_folder(self.system, path) {
+            self.cause = ErrorCause::of(CauseOf::Folder, error);
+            return Err(fault);
+        }
+        match OsDir::at(alloc, self.system, NoWait, path) {
             Ok(folder) => Ok(folder),
-            Err(FolderError { fault, error }) => {
-                self.cause = ErrorCause::of(CauseOf::Folder, error);
-                Err(fault)
-            }
+            Err(_) => Err(FolderFault::OutOfMemory),
         }
     }
 
     fn failed(&mut self, folder: &OsDir<&'a S>) {
-        self.cause = ErrorCause::of_look_up(folder.failure());
+        self.cause = ErrorCause::of_call(CauseOf::Rules, folder.failure());
     }
 
     fn cause(&self) -> Option<ErrorCause> {
@@ -160,10 +158,10 @@ where
         path: &str,
     ) -> Result<LockedDir<&'a S, Waiting<'a, S, E>>, AllocError> {
         let waiting = Waiting::new(self.system, self.errors.replace(None));
-        LockedDir::locked(alloc, self.system, waiting, path)
+        LockedDir::at(alloc, self.system, waiting, path)
     }
 
     fn close(&mut self, dir: LockedDir<&'a S, Waiting<'a, S, E>>) -> Option<ErrorCause> {
-        ErrorCause::of_installation(dir.failure())
+        ErrorCause::of_call(CauseOf::Scratch, dir.failure())
     }
 }

@@ -11,6 +11,7 @@ ghost use Rattle.rules_tools.specs.Scratch.{AfterFault, HasFailedTwice, IsTakenA
 ghost use Rattle.rules_tools.specs.Series.{MakesSeries};
 
 use crate::folder::RulesFolder;
+use crate::steps::make_steps;
 use crate::tcprules::{TcprulesFault, read_paths, read_text};
 use dir_calls::{ClearableDir, Name};
 use rule_lines::{Limits, parse_owned};
@@ -119,7 +120,7 @@ fn install_begun<D: ClearableDir>(
 {
     // a law: the two names differ
     install.consistent();
-    let outcome = folder.make_steps(alloc, install);
+    let outcome = make_steps(alloc, &mut folder.dir, install);
     if is_of_disk(&outcome) {
         folder.remove_scratch(alloc, scratch);
     }

@@ -2,9 +2,8 @@
 //!
 //! The program's path goes through `run_tcprules`, `run_review` and `run_tcprulescheck`, each one call from its input
 //! to its answer. They take any reader, writer and folders, and have the contracts of `install_text` and
-//! `tell_decision`, which are below them. A `RulesFolder` is a directory of which each call needs what the one before
-//! it gave: a turn, then a cleared folder, then an installation. `Alone` gives turns where nobody else uses the
-//! directory, in tests. Of `SystemFolders` and `SystemVariables`, which are the system's, only safety is proved. Tested:
+//! `tell_decision`, which are below them. A `RulesFolder` is a directory with what an installation left
+//! there. Of `SystemFolders` and `SystemVariables`, which are the system's, only safety is proved. Tested:
 //! two installers at once, what they say while they wait, buffered lines of `-n`, and causes.
 #![tactic(auto)]
 

@@ -1,10 +1,10 @@
 //! `tcprules`: compiles a rule text from standard input, and installs it.
-ghost use Rattle.std.specs.Prelude.{◌≡◌, ◌⊎◌, ◌<◌, ◌^◌, ◌-◌, ◌+◌, None, Err, IsSome, IfOk, IfErr, IfSome, OnOk, take};
+ghost use Rattle.std.specs.Prelude.{◌≡◌, ◌⊎◌, ◌<◌, ◌^◌, ◌-◌, ◌+◌, None, IsSome, IfOk, IfErr, IfSome, OnOk, take};
 ghost use Rattle.byte_text.specs.NotingStream.{noted_error, noted_stream};
 ghost use Rattle.dir_calls.specs.Names.{name_fault};
 ghost use Rattle.rules_install.specs.ParseFaults.{of_parse};
 ghost use Rattle.rules_tools.specs.Causes.{failure_of, without_cause};
-ghost use Rattle.rules_tools.specs.Paths.{IsFolderOf, PathsOf};
+ghost use Rattle.rules_tools.specs.Paths.{PathsOf};
 ghost use Rattle.rules_tools.specs.Rules.{told_fault};
 ghost use Rattle.rules_tools.specs.Shells.{RunsByPaths, RunsIn, RunsSpelled};
 ghost use Rattle.rules_tools.specs.declared.tcprules.TcprulesFault.TheVariants.{OutOfMemory};
@@ -170,18 +170,10 @@ fn run_spelled<F: InstallFolders, R: Read>(
       new = folders.new;
     }) cdb.now tmp.now result }
 {
-    let folder = folder_of(alloc, cdb, tmp)?;
+    let (folder, names) = read_paths(alloc, cdb, tmp)?;
+    drop(names);
     let dir = folders.open(alloc, folder_path(folder))?;
     run_there(alloc, folders, dir, reader, cdb, tmp)
-}
-
-// The folder of two paths.
-fn folder_of<'a>(alloc: Global, cdb: &'a str, tmp: &'a str) -> Result<&'a str, TcprulesFault>
-    ensures found { IfOk result (λ folder. IsFolderOf cdb.now tmp.now folder.now) }
-    ensures refused { IfErr result (λ fault. PathsOf cdb.now tmp.now (Err fault)) }
-{
-    let (folder, _names) = read_paths(alloc, cdb, tmp)?;
-    Ok(folder)
 }
 
 // The same in the folder of the paths, which is let go in the end.
@@ -206,7 +198,7 @@ fn run_there<F: InstallFolders, R: Read>(
 {
     let mut folder = RulesFolder::new(dir);
     let outcome = install_text(alloc, reader, &mut folder, cdb, tmp);
-    let cause = folders.close(folder.into_dir());
+    let cause = folders.close(folder.dir);
     tell(outcome, reader.error(), cause)
 }
 

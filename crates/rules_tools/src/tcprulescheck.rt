@@ -6,7 +6,7 @@ ghost use Rattle.dir_calls.specs.Directory.{content};
 ghost use Rattle.byte_text.specs.NotingStream.{noted_error, noted_stream};
 ghost use Rattle.rules_tools.specs.Causes.{check_failure_of};
 ghost use Rattle.rules_tools.specs.Checks.{Blames, DecidesBy, FailsBy};
-ghost use Rattle.rules_tools.specs.Told.{Checks, DecidesAt, DecidesThere, FailsAt, HasNone, NameFails, TellsWithCause};
+ghost use Rattle.rules_tools.specs.Told.{Checks, DecidesAt, DecidesThere, FailsAt, HasNone, NameFails, TellsWithCause, told_folder};
 ghost use Rattle.rules_tools.specs.declared.tcprulescheck.CheckFault.TheVariants.{OutOfMemory};
 
 use crate::cause::{CauseOf, ErrorCause};
@@ -68,6 +68,18 @@ impl From<AllocError> for CheckFault {
 
     fn from(_: AllocError) -> Self {
         CheckFault::OutOfMemory
+    }
+}
+
+impl From<FolderFault> for CheckFault {
+    ghost from_gives = { λ given fault. fault ≡ told_folder given };
+
+    fn from(fault: FolderFault) -> Self {
+        match fault {
+            FolderFault::NoFolder => CheckFault::NoFile,
+            FolderFault::Device => CheckFault::Device,
+            FolderFault::OutOfMemory => CheckFault::OutOfMemory,
+        }
     }
 }
 
@@ -150,7 +162,7 @@ pub fn tell_decision<V: Variables, F: Folders, W: Write>(
     write_decision(alloc, writer, &decision)
 }
 
-/// Writes what a compiled file decides.
+/// Writes what a compiled file decides, and flushes it.
 fn write_decision<W: Write>(
     alloc: Global,
     writer: &mut NotingStream<W>,
@@ -164,7 +176,10 @@ fn write_decision<W: Write>(
 {
     let mut answer = Vec::new(alloc);
     append_answer(&mut answer, decision)?;
-    write_answer(writer, answer.as_slice())
+    if writer.write_all(answer.as_slice()).is_err() || writer.flush().is_err() {
+        return Err(CheckFault::WriteFault);
+    }
+    Ok(())
 }
 
 /// What the compiled file at a path decides.
@@ -184,14 +199,14 @@ fn decide_in<F: Folders>(
     let name = read_name(alloc, name)?;
     let mut dir = match folders.find(alloc, folder_path(folder)) {
         Ok(dir) => dir,
-        Err(FolderFault::NoFolder) => return Err(CheckFault::NoFile),
-        Err(FolderFault::Device) => return Err(CheckFault::Device),
-        Err(FolderFault::OutOfMemory) => return Err(CheckFault::OutOfMemory),
+        Err(fault) => return Err(fault.into()),
     };
     let decided = decide_there(alloc, &mut dir, &name, peer);
     if decided.is_err() {
         folders.failed(&dir);
     }
+    drop(dir);
+    drop(name);
     decided
 }
 
@@ -262,17 +277,4 @@ pub fn decide_at<D: Dir>(
         Err(DecideFault::Find(FindFault::OutOfMemory)) => Err(CheckFault::OutOfMemory),
         Err(DecideFault::OutOfMemory) => Err(CheckFault::OutOfMemory),
     }
-}
-
-/// Writes an answer, and flushes it.
-fn write_answer<W: Write>(writer: &mut NotingStream<W>, answer: &[u8]) -> Result<(), CheckFault>
-    ensures written { OnOk result (Appends (W.contents (noted_stream writer.old))
-        (W.contents (noted_stream writer.new)) answer.now) }
-    ensures passed { OnOk result (noted_error writer.new ≡ None) }
-    ensures fault { IfErr result (λ fault. fault ≡ CheckFault.WriteFault) }
-{
-    if writer.write_all(answer).is_err() || writer.flush().is_err() {
-        return Err(CheckFault::WriteFault);
-    }
-    Ok(())
 }

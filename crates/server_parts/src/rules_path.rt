@@ -6,14 +6,14 @@ ghost use Rattle.server_parts.specs.RulesPaths.{IsFolderOfPath};
 use crate::named_rules::has_named_rule;
 use cdb_files::CdbFile;
 use dir_calls::{Dir, Name, RulesFile};
-use dir_disk::{OsDir, OsFile, SystemFile};
+use dir_disk::{NoWait, OsDir, OsFile, SystemFile};
 use rule_lookup::{DecideFault, Peer, RuleSource, forms};
 use rules_tools::path::{folder_path, split_path};
 use std::alloc::{AllocError, Global};
 use std::fs::{File, Files};
 
 /// A file of the system's rules.
-pub type RulesOnDisk = OsFile<SystemFile<File>>;
+pub type RulesOnDisk = OsFile<SystemFile>;
 
 /// Where a rules file stands.
 #[derive(Drop)]
@@ -50,7 +50,12 @@ impl<'a, R: Files<File = File>> RulesPath<'a, R> {
     pub fn folder(&self, alloc: Global) -> Result<OsDir<&'a R>, AllocError>
         ensures its { IfOk result (λ dir. IsFolderOfPath self.now.path.now (system_folder (os_disk dir))) }
     {
-        OsDir::at(alloc, self.files, folder_path(split_path(self.path).0))
+        OsDir::at(
+            alloc,
+            self.files,
+            NoWait,
+            folder_path(split_path(self.path).0),
+        )
     }
 
     /// The address of the rule that is met first for this client in the file that stands there now, if that rule is

@@ -1,12 +1,10 @@
 -- A disk in memory.
-use Rattle.std.specs.Prelude.{◌≡◌, ℕ, List, length, map, slice_get, take, Some}
-use Rattle.std.specs.Option.{option_map}
+use Rattle.std.specs.Prelude.{ℕ, List, [], length, map, unwrap_or}
 use Rattle.dir_calls.specs.Directory.{Directory}
 use Rattle.memory_dirs.specs.Folder.{directory_of}
 use Rattle.memory_dirs.specs.Past.{LeftSince, past_call}
 use Rattle.test_programs.specs.declared.mem_disk.MemDisk.{MemDisk}
 use Rattle.test_programs.specs.declared.mem_disk.MemHandle.{MemHandle}
-use Rattle.test_programs.specs.declared.mem_disk.MemPath.{MemPath}
 
 -- what stands on it
 abbrev pub mem_disk_state : MemDisk → Directory
@@ -20,12 +18,6 @@ mem_disk_moment disk = length (map past_call disk.past.items)
 abbrev pub mem_disk_left_since : MemDisk → ℕ → Directory → Type 0
 mem_disk_left_since disk = LeftSince (map past_call disk.past.items) (directory_of disk.folder)
 
--- the name that was put into a path
-abbrev pub path_name : MemPath → List ℕ
-path_name path = take path.count path.bytes
-
--- a handle has the bytes that stand in its file
-pub record HasContent (disk : MemDisk) (handle : MemHandle) : Type 0 where
-  pub bytes : List ℕ
-  pub kept : handle.content ≡ Some bytes
-  pub stands : option_map (λ file. file.bytes) (slice_get (mem_disk_state disk).files handle.number) ≡ Some bytes
+-- the bytes of an opened file: those that it had when it was opened to be read
+abbrev pub handle_bytes : MemHandle → List ℕ
+handle_bytes handle = unwrap_or handle.content []

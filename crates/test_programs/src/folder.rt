@@ -6,10 +6,9 @@
 ghost use Rattle.std.specs.Prelude.{◌≡◌, false};
 
 use dir_calls::{Dir, DirFault, Name, RulesFile};
-use dir_disk::OsDir;
+use dir_disk::{FolderFault, NoWait, OsDir, find_folder};
 use std::alloc::Global;
-use std::fs::Files;
-use std::os::unix::fs::FileExt;
+use std::fs::{File, Files};
 use test_server::Answer;
 
 /// How many of the zeros are given to a call of `append`.
@@ -41,16 +40,22 @@ fn command_of(line: &str) -> Command<'_> {
 }
 
 /// Runs the commands on a folder of the system, and adds their answers.
-pub fn run_folder<R: Files>(rt: &R, alloc: Global, path: &str, given: &[u8], out: &mut Answer)
-where
-    R::File: FileExt,
-{
-    match OsDir::new(alloc, rt, path) {
+pub fn run_folder<R: Files<File = File>>(
+    rt: &R,
+    alloc: Global,
+    path: &str,
+    given: &[u8],
+    out: &mut Answer,
+) {
+    if let Err(error) = find_folder(rt, path) {
+        return out.show_line(&error.fault);
+    }
+    match OsDir::at(alloc, rt, NoWait, path) {
         Ok(mut dir) => {
             run_unknown(alloc, &mut dir, given, out);
             drop(dir);
         }
-        Err(fault) => out.show_line(&fault),
+        Err(_) => out.show_line(&FolderFault::OutOfMemory),
     }
 }
 

@@ -22,9 +22,8 @@ use eight_threads::eight_callers_in_threads;
 use folder::run_folder;
 use installs::run_installs;
 use pairs::run_pairs;
-use std::fs::Files;
+use std::fs::{File, Files};
 use std::io::Read;
-use std::os::unix::fs::FileExt;
 use std::process::ExitCode;
 use std::sync::Wait;
 use std::thread::Threads;
@@ -54,16 +53,13 @@ fn run_sites<R: AllocGlobal + Threads + Wait + Clock + Sync>(rt: &R, out: &mut A
 }
 
 /// Runs the program with this name, with its words and its standard input.
-fn call<R: AllocGlobal + Files + Threads + Wait + Clock + Sync>(
+fn call<R: AllocGlobal + Files<File = File> + Threads + Wait + Clock + Sync>(
     rt: &R,
     name: &str,
     words: &[String],
     given: &[u8],
     out: &mut Answer,
-)
-where
-    R::File: FileExt,
-{
+) {
     let word = match words.first() {
         Some(word) => word.as_str(),
         None => "",
@@ -79,14 +75,11 @@ where
 }
 
 /// Runs a program, and prints what it answers.
-fn run<R: Input + Print + AllocGlobal + Files + Threads + Wait + Clock + Sync>(
+fn run<R: Input + Print + AllocGlobal + Files<File = File> + Threads + Wait + Clock + Sync>(
     rt: &R,
     path: &str,
     more: &mut env::Args,
-) -> io::Result<()>
-where
-    R::File: FileExt,
-{
+) -> io::Result<()> {
     let alloc = rt.alloc();
     let mut words = Vec::new(alloc);
     let mut given = Vec::new(alloc);

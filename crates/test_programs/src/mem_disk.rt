@@ -5,7 +5,7 @@ ghost use Rattle.memory_dirs.specs.Folder.{directory_of, empty_directory};
 ghost use Rattle.memory_dirs.specs.Stored.{open_length};
 ghost use Rattle.dir_disk.specs.DiskSteps.{after_write};
 ghost use Rattle.memory_dirs.specs.Past.{left_now, past_call};
-ghost use Rattle.test_programs.specs.MemDisk.{HasContent, mem_disk_left_since, mem_disk_moment, mem_disk_state, path_name};
+ghost use Rattle.test_programs.specs.MemDisk.{handle_bytes, mem_disk_left_since, mem_disk_moment, mem_disk_state};
 ghost use Rattle.std.proofs.Common.{inl, refl};
 
 use dir_calls::{Name, RulesFile};
@@ -14,9 +14,6 @@ use http_server::Log;
 use memory_dirs::{Folder, MemFile};
 use std::alloc::{AllocError, Global};
 use std::io::{self, ErrorKind};
-
-/// How many bytes a name has at most.
-const LONGEST: usize = 255;
 
 /// A disk in memory, for tests. Each call does what its clauses say, and succeeds if one of a real disk would, unless
 /// there is no memory. A synced file is written no more. So it is a witness that a disk can keep all clauses.
@@ -28,29 +25,12 @@ pub struct MemDisk {
     past: Log<Folder, Option<Name>>,
 }
 
-/// The path of a name on a disk in memory.
-#[derive(Drop)]
-pub struct MemPath {
-    bytes: [u8; LONGEST],
-    count: usize,
-}
-
-/// The folder of a disk in memory, opened.
-#[derive(Drop)]
-pub struct MemFolder;
-
 /// An opened file of a disk in memory.
 #[derive(Drop)]
 pub struct MemHandle {
     number: usize,
     // its bytes, if it was opened to be read
     content: Option<MemFile>,
-}
-
-/// A file of a disk in memory, opened to be read.
-#[derive(Drop)]
-pub struct MemDiskFile {
-    file: MemFile,
 }
 
 // The fault of a call for which there is no such file or name.
@@ -70,15 +50,6 @@ impl MemDisk {
             folder: Folder::new(alloc),
             past: Log::new(),
         }
-    }
-}
-
-impl MemPath {
-    // the name that was put into it
-    fn name(&self) -> &[u8]
-        ensures { result.now ≡ path_name self.now }
-    {
-        &self.bytes[..self.count.min(LONGEST)]
     }
 }
 
@@ -121,13 +92,16 @@ fn write(
     Ok(count)
 }
 
-impl DiskFile for MemDiskFile {
-    ghost bytes = { λ f. f.file };
+impl DiskFile for MemHandle {
+    ghost bytes = { handle_bytes };
 
     ghost honest = { true };
 
     fn read_at(&self, position: u64, buf: &mut [u8]) -> io::Result<usize> {
-        match self.file.read_at(position, buf) {
+        let Some(content) = &self.content else {
+            return Err(not_opened());
+        };
+        match content.read_at(position, buf) {
             Ok(count) => Ok(count),
             Err(_) => Err(not_opened()),
         }
@@ -135,13 +109,7 @@ impl DiskFile for MemDiskFile {
 }
 
 impl Disk for MemDisk {
-    type Path = MemPath;
-
-    type Folder = MemFolder;
-
-    type Handle = MemHandle;
-
-    type File = MemDiskFile;
+    type File = MemHandle;
 
     ghost state = { mem_disk_state };
 
@@ -151,15 +119,11 @@ impl Disk for MemDisk {
 
     ghost left_since = { mem_disk_left_since };
 
-    ghost named = { path_name };
-
     ghost number = { λ handle. handle.number };
 
     ghost regular = { λ _. true };
 
     ghost identity = { λ number. (0, number) };
-
-    ghost known = { HasContent };
 
     ghost counts_now = { λ disk earlier image honest le now. inl now };
 
@@ -168,35 +132,18 @@ impl Disk for MemDisk {
 
     ghost honest_files = { refl };
 
-    fn room(&self, alloc: Global) -> Result<MemPath, AllocError> {
-        Ok(MemPath {
-            bytes: [0; LONGEST],
-            count: 0,
-        })
-    }
-
-    fn put_path(&self, path: &mut MemPath, name: &Name) {
-        let bytes = name.as_str().as_bytes();
-        path.bytes[..bytes.len()].copy_from_slice(bytes);
-        path.count = bytes.len();
-    }
-
-    fn open_folder(&self) -> io::Result<MemFolder> {
-        Ok(MemFolder)
-    }
-
-    fn sync_folder(&mut self, folder: &MemFolder) -> io::Result<()> {
+    fn sync_folder(&mut self) -> io::Result<()> {
         let past = self.past.and(&self.folder, &None);
         self.folder.settle();
         self.past = past;
         Ok(())
     }
 
-    fn unlink(&mut self, folder: &MemFolder, path: &MemPath) -> io::Result<()> {
+    fn unlink(&mut self, name: &Name) -> io::Result<()> {
         let past = self.past.and(&self.folder, &None);
         let stood = self
             .folder
-            .take(self.alloc, path.name())
+            .take(self.alloc, name.as_str().as_bytes())
             .map_err(no_memory)?;
         if !stood {
             return Err(io::Error::from(ErrorKind::NotFound));
@@ -205,13 +152,13 @@ impl Disk for MemDisk {
         Ok(())
     }
 
-    fn create(&mut self, folder: &MemFolder, path: &MemPath, mode: u32) -> io::Result<MemHandle> {
-        if self.folder.number(path.name()).is_some() {
+    fn create(&mut self, name: &Name, mode: u32) -> io::Result<MemHandle> {
+        if self.folder.number(name.as_str().as_bytes()).is_some() {
             return Err(io::Error::from(ErrorKind::AlreadyExists));
         }
         let past = self.past.and(&self.folder, &None);
         self.folder
-            .make(self.alloc, path.name())
+            .make(self.alloc, name.as_str().as_bytes())
             .map_err(no_memory)?;
         self.past = past;
         match self.folder.scratch() {
@@ -248,14 +195,8 @@ impl Disk for MemDisk {
         self.past = past;
     }
 
-    fn rename(
-        &mut self,
-        folder: &MemFolder,
-        file: &MemHandle,
-        from: &MemPath,
-        to: &MemPath,
-    ) -> io::Result<()> {
-        let Some(number) = self.folder.number(from.name()) else {
+    fn rename(&mut self, file: &MemHandle, from: &Name, to: &Name) -> io::Result<()> {
+        let Some(number) = self.folder.number(from.as_str().as_bytes()) else {
             return Err(io::Error::from(ErrorKind::NotFound));
         };
         if number != file.number {
@@ -263,26 +204,24 @@ impl Disk for MemDisk {
         }
         let past = self.past.and(&self.folder, &None);
         self.folder
-            .rename(self.alloc, from.name(), to.name(), number)
+            .rename(
+                self.alloc,
+                from.as_str().as_bytes(),
+                to.as_str().as_bytes(),
+                number,
+            )
             .map_err(no_memory)?;
         self.past = past;
         Ok(())
     }
 
-    fn is_file(&self, path: &MemPath) -> io::Result<bool> {
-        match self.folder.number(path.name()) {
-            Some(_) => Ok(true),
-            None => Err(io::Error::from(ErrorKind::NotFound)),
-        }
-    }
-
-    fn open(&self, path: &MemPath) -> io::Result<MemHandle> {
-        let Some(number) = self.folder.number(path.name()) else {
+    fn open(&mut self, name: &Name) -> io::Result<MemHandle> {
+        let Some(number) = self.folder.number(name.as_str().as_bytes()) else {
             return Err(io::Error::from(ErrorKind::NotFound));
         };
         let content = self
             .folder
-            .open(self.alloc, path.name())
+            .open(self.alloc, name.as_str().as_bytes())
             .map_err(no_memory)?;
         if content.is_none() {
             return Err(not_opened());
@@ -295,17 +234,9 @@ impl Disk for MemDisk {
             return Err(not_opened());
         };
         Ok(Look {
-            is_file: true,
             len: size as u64,
             device: 0,
             inode: file.number as u64,
         })
-    }
-
-    fn reading(&self, file: MemHandle) -> MemDiskFile {
-        match file.content {
-            Some(file) => MemDiskFile { file },
-            None => unreachable!("it was opened to be read"),
-        }
     }
 }

@@ -5,7 +5,7 @@ ghost use Rattle.server_parts.specs.RulesPaths.{IsFolderOfPath};
 ghost use Rattle.ucspi.specs.Opened.{IsThere};
 
 use dir_calls::{Dir, DirFault, Name};
-use dir_disk::{Disk, DiskDir, OsFile, SystemDisk};
+use dir_disk::{Disk, DiskDir, NoWait, OsFile, SystemDisk};
 use rule_lookup::Peer;
 use server_parts::{RulesOnDisk, RulesPath};
 use server_yard::{Assumptions, Finding};
@@ -35,12 +35,15 @@ impl<'a, L: Assumptions, R> FolderRules<'a, L, R> {
 }
 
 impl<'a, L: Assumptions, R: Files<File = File>> Rules<L, RulesOnDisk> for FolderRules<'a, L, R> {
-    type Handle = FolderHandle<'a, L, SystemDisk<&'a R>>;
+    type Handle = FolderHandle<'a, L, SystemDisk<&'a R, NoWait>>;
 
     ghost gives = { λ rules handle.
         (handle.name ≡ rules.at.name) × IsFolderOfPath rules.at.path.now (system_folder (os_disk handle.dir)) };
 
-    fn handle(&self, alloc: Global) -> Result<FolderHandle<'a, L, SystemDisk<&'a R>>, AllocError> {
+    fn handle(
+        &self,
+        alloc: Global,
+    ) -> Result<FolderHandle<'a, L, SystemDisk<&'a R, NoWait>>, AllocError> {
         Ok(FolderHandle {
             dir: self.at.folder(alloc)?,
             name: self.at.name,
@@ -52,7 +55,7 @@ impl<'a, L: Assumptions, R: Files<File = File>> Rules<L, RulesOnDisk> for Folder
         self.at.path
     }
 
-    fn error(&self, handle: &FolderHandle<'a, L, SystemDisk<&'a R>>) -> Option<i32> {
+    fn error(&self, handle: &FolderHandle<'a, L, SystemDisk<&'a R, NoWait>>) -> Option<i32> {
         Some(handle.dir.failure()?.error)
     }
 

@@ -4,7 +4,7 @@ ghost use Rattle.server_parts.specs.declared.fault.ServerFault.TheVariants.{Cann
 
 use crate::no_folder::NoFolder;
 use crate::rules::{FolderHandle, FolderRules};
-use dir_disk::SystemDisk;
+use dir_disk::{NoWait, SystemDisk};
 use server_parts::opening::listen;
 use server_parts::programs::{ProgramInput, ServiceJob};
 use server_parts::sockets::Holder;
@@ -127,7 +127,7 @@ impl<'a, P: System, L: Assumptions + Send + Sync, N: Callers + Send + Sync> Agen
     for OnSystem<'a, P, L, N> {
     type Runtime = P::Runtime;
 
-    type Handle = FolderHandle<'a, L, SystemDisk<&'a P::Runtime>>;
+    type Handle = FolderHandle<'a, L, SystemDisk<&'a P::Runtime, NoWait>>;
 
     type Rules = FolderRules<'a, L, P::Runtime>;
 

@@ -18,7 +18,6 @@ use std::alloc::Global;
 use std::fs::{File, Files};
 use std::io;
 use std::io::{BufWriter, Read, Write};
-use std::os::unix::fs::FileExt;
 use std::rt::Env;
 use std::time::Clock;
 use stream_tools::BetweenFault;
@@ -173,11 +172,10 @@ fn review_by<I: Read + Drop, E: Write + Drop>(
     }
 }
 
-// `tcprulescheck` over this system. (The prover takes it only where nothing is known of the system's files.)
+// `tcprulescheck` over this system.
 fn check_over<R, E, W>(system: &R, errors: E, output: W, cdb: &str) -> Result<(), CheckFailure>
 where
-    R: Env + AllocGlobal + Files,
-    R::File: FileExt,
+    R: Env + AllocGlobal + Files<File = File>,
     E: Write + Drop,
     W: Write + Drop,
 {

@@ -14,7 +14,7 @@ pub returns-then-not-was_interrupted-clause-done : goal.returns-then-not-was_int
 returns-then-not-was_interrupted-clause-done g c = λ honest.
     let d = g.D.Disk.state c.loop.disk in
     let e = g.D.Disk.state c.unlink-outcome.new.self in
-    let name = g.D.Disk.named c.args.path.now in
+    let name = c.args.name.now in
     subst (λ (x : Directory). OnOk c.unless_absent.result (e ≡ without x name)) (c.loop.invariant.same honest)
     (told_unless c.unlink-outcome.result c.unless_absent.result (λ x. error_kind x ≡ NotFound) (e ≡ without d name) c.unless_absent.ensures.gone (c.unlink-outcome.ensures.done honest)
     (if_err_then c.unlink-outcome.result (λ x. error_kind x ≡ NotFound → (number_of d name ≡ None) × (e ≡ d)) (λ x. error_kind x ≡ NotFound → e ≡ without d name)
@@ -23,7 +23,7 @@ returns-then-not-was_interrupted-clause-done g c = λ honest.
 pub returns-then-not-was_interrupted-clause-failed : goal.returns-then-not-was_interrupted-clause-failed
 returns-then-not-was_interrupted-clause-failed g c = λ honest.
     let e = g.D.Disk.state c.unlink-outcome.new.self in
-    let name = g.D.Disk.named c.args.path.now in
+    let name = c.args.name.now in
     let d = g.D.Disk.state c.loop.disk in
     subst (λ (x : Directory). OnErr c.unless_absent.result (AllOrNone x (without x name) e)) (c.loop.invariant.same honest)
     (told_err c.unlink-outcome.result c.unless_absent.result (AllOrNone d (without d name) e) c.unless_absent.ensures.failed (c.unlink-outcome.ensures.failed honest))

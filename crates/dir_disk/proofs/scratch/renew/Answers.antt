@@ -15,7 +15,7 @@ use Rattle.dir_disk.proofs.scratch.renew.Goals as goal
 
 pub returns-in_err-let_go-clause-failed : goal.returns-in_err-let_go-clause-failed
 returns-in_err-let_go-clause-failed g c = λ honest.
-    let name = g.D.Disk.named c.args.path.now in
+    let name = c.args.name.now in
     let d = g.D.Disk.state c.args.disk.now in
     let m = g.D.Disk.state c.let_go.new.disk in
     let p = c.args.pending.now.items in
@@ -24,7 +24,7 @@ returns-in_err-let_go-clause-failed g c = λ honest.
 
 pub returns-clause-failed : goal.returns-clause-failed
 returns-clause-failed g c = λ honest.
-    let name = g.D.Disk.named c.args.path.now in
+    let name = c.args.name.now in
     let d = g.D.Disk.state c.args.disk.now in
     let m = g.D.Disk.state c.let_go.new.disk in
     let f = g.D.Disk.state c.make_file.new.disk in
@@ -35,7 +35,7 @@ returns-clause-failed g c = λ honest.
 
 pub returns-clause-time : goal.returns-clause-time
 returns-clause-time g c = λ honest.
-    let name = g.D.Disk.named c.args.path.now in
+    let name = c.args.name.now in
     let d = g.D.Disk.state c.args.disk.now in
     let m = g.D.Disk.state c.let_go.new.disk in
     let f = g.D.Disk.state c.make_file.new.disk in
@@ -50,7 +50,7 @@ returns-clause-time g c = λ honest.
 
 pub returns-clause-within : goal.returns-clause-within
 returns-clause-within g c = λ honest.
-    let name = g.D.Disk.named c.args.path.now in
+    let name = c.args.name.now in
     let d = g.D.Disk.state c.args.disk.now in
     let m = g.D.Disk.state c.let_go.new.disk in
     let f = g.D.Disk.state c.make_file.new.disk in
@@ -79,5 +79,5 @@ pub returns-in_err-let_go-clause-time : goal.returns-in_err-let_go-clause-time
 returns-in_err-let_go-clause-time g c = λ honest.
     let d = g.D.Disk.state c.args.disk.now in
     let p = c.args.pending.now.items in
-    call_elapses g.D.Disk.state g.D.Disk.moment g.D.Disk.left_since c.args.disk.now c.let_go.new.disk (makes (g.D.Disk.named c.args.path.now)) (kept_back p d) (g.D.Disk.state c.let_go.new.disk) (c.let_go.ensures.time honest)
+    call_elapses g.D.Disk.state g.D.Disk.moment g.D.Disk.left_since c.args.disk.now c.let_go.new.disk (makes c.args.name.now) (kept_back p d) (g.D.Disk.state c.let_go.new.disk) (c.let_go.ensures.time honest)
     (λ image is. kept_image g.D.Disk.number d c.args.scratch c.args.written p image (c.requires.holds honest) is) (λ image is. is)

@@ -11,7 +11,7 @@ pub returns-then-is_of_disk : goal.returns-then-is_of_disk
 returns-then-is_of_disk g c =
     let s = installing c.args.install.now in
     let old = folder_dir c.args.folder.now in
-    let mid = folder_dir c.make_steps-outcome.new.self in
+    let mid = c.make_steps-outcome.new.dir in
     let new = folder_dir c.remove_scratch.new.self in
     let result = c.make_steps-outcome.result in
     let failed : fails_on_disk result ≡ true = sym c.is_of_disk.ensures ∙ c.if-is_of_disk.true in
@@ -36,7 +36,7 @@ returns-then-is_of_disk g c =
 pub returns-else-is_of_disk-clause-blames : goal.returns-else-is_of_disk-clause-blames
 returns-else-is_of_disk-clause-blames g c =
     let old = folder_dir c.args.folder.now in
-    let mid = folder_dir c.make_steps-outcome.new.self in
+    let mid = c.make_steps-outcome.new.dir in
     blames_disk (g.D.Dir.failed old) (g.D.Dir.failed mid) (g.D.Dir.failed mid) c.make_steps-outcome.result (omega arith) c.make_steps-outcome.ensures.blames
 
 pub returns-else-is_of_disk-clause-removed : goal.returns-else-is_of_disk-clause-removed

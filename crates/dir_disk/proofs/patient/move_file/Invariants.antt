@@ -1,6 +1,6 @@
 use Rattle.std.proofs.Common.{◌≡◌, IsTrue}
 use Rattle.dir_disk.specs.DiskSteps.{StepElapses}
-use Rattle.dir_disk.proofs.patient.rename.Given as goal
+use Rattle.dir_disk.proofs.patient.move_file.Given as goal
 
 abbrev pub invariant-loop : goal.invariant-loop
 invariant-loop g l = record {
