@@ -30,29 +30,19 @@ pub(crate) fn end_of<H: Host>(
         Ok(closed) => {
             let (end, error) = (closed.end, closed.errors.last);
             drop(closed);
-            match failure_of(end, error) {
-                Ok(()) => Ok(Finished(())),
-                Err(failure) => Err(failure),
+            match end {
+                ServeEnd::Count | ServeEnd::Spent => Ok(Finished(())),
+                ServeEnd::NoPlaces => Err(ServerFailure::from(ServerFault::NoPlaces)),
+                ServeEnd::AcceptFaults => Err(ServerFailure {
+                    fault: ServerFault::AcceptFault,
+                    error,
+                }),
+                ServeEnd::OutOfMemory => Err(ServerFailure::from(ServerFault::OutOfMemory)),
             }
         }
         Err(unfinished) => {
             drop(unfinished);
             Err(ServerFailure::from(ServerFault::LostConnection))
         }
-    }
-}
-
-// Why the tool fails, by how its server ended and this error.
-fn failure_of(end: ServeEnd, error: Option<i32>) -> Result<(), ServerFailure>
-    ensures { result ≡ told_of end error }
-{
-    match end {
-        ServeEnd::Count | ServeEnd::Spent => Ok(()),
-        ServeEnd::NoPlaces => Err(ServerFailure::from(ServerFault::NoPlaces)),
-        ServeEnd::AcceptFaults => Err(ServerFailure {
-            fault: ServerFault::AcceptFault,
-            error,
-        }),
-        ServeEnd::OutOfMemory => Err(ServerFailure::from(ServerFault::OutOfMemory)),
     }
 }
