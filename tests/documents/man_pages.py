@@ -38,6 +38,7 @@ SECTIONS = ("NAME", "DESCRIPTION", "EXAMPLES", "COMPATIBILITY", "SEE ALSO", "HIS
 # pages of others to which a page has to refer
 NAMED = {"tcpserver": {"multilog(8)", "supervise(8)", "setpriv(1)"}, "ucspi": {"multilog(8)", "supervise(8)", "setpriv(1)"}, "recordio": {"multilog(8)"}}
 SERVER_FAULT = "server_parts/src/fault.rt"
+TOOL_FAULT = "ucspi_tools/src/fault.rt"
 
 
 # the pages
@@ -209,33 +210,26 @@ def code_of(value):
     return {"BAD_INPUT": 100, "SYSTEM_FAULT": 111}.get(value) or (int(value) if value.isdigit() else None)
 
 
-def codes_of(source, function, enum, variants):
-    """The exit code of each variant by a function's match."""
+def codes_of(path, enum, variants, carrier=None):
+    """The exit code of each variant by the match of `exit_code`: a variant may stand in the fault of a tool that carries it."""
     codes, rest = {}, None
-    for pattern, value in arms(source, function):
-        named = re.findall(enum + r"::(\w+)", pattern)
-        for variant in named:
+    for pattern, value in arms(read(path), "exit_code"):
+        for variant in re.findall(r"\b%s::(\w+)" % enum, pattern):
             codes[variant] = code_of(value)
-        # (all other faults of a server are one arm of the faults of its tool)
-        if not named and pattern.strip() in ("_", "TcpserverFault::Server(_)"):
+        if pattern.strip() == "ToolFault::%s(_)" % carrier or pattern.strip() == "_" and rest is None:
             rest = code_of(value)
     return {variant: codes.get(variant, rest) for variant in variants}
 
 
 def tool_texts(tool):
     """The texts of a tool, with their exit codes."""
-    source = read("ucspi_tools/src/fault.rt")
-    by = {name: value for pattern, value in arms(source, "exit_code") for name in re.findall(r"ToolFault::(\w+)", pattern)}
     found = {}
     for path, enum, variant in [FAULTS[tool]] + ([REVIEW] if tool == "tcprules" else []):
         texts = texts_of(path, enum)
-        function = re.match(r"(\w+)\(", by[variant])
-        if function:
-            codes = codes_of(source, function.group(1), enum, texts)
-        else:
-            codes = dict.fromkeys(texts, code_of(by[variant]))
+        codes = codes_of(TOOL_FAULT, enum, texts, variant)
         found.update({"%s: %s" % (tool, texts[name]): codes[name] for name in texts})
-    found["%s: usage: %s" % (tool, usages()[tool])] = code_of(by["Usage"])
+    usage = codes_of(TOOL_FAULT, "ToolFault", ["Usage"])["Usage"]
+    found["%s: usage: %s" % (tool, usages()[tool])] = usage
     return found
 
 
@@ -257,7 +251,7 @@ def word_texts():
     """The texts of tcpserver's words, with their exit codes."""
     path, enum = "server_words/src/fault.rt", "ServerWordsFault"
     texts = texts_of(path, enum)
-    codes = codes_of(read(path), "exit_code", enum, texts)
+    codes = codes_of(path, enum, texts)
     return {"tcpserver: " + texts[variant]: codes[variant] for variant in texts}
 
 
@@ -265,13 +259,10 @@ def server_texts():
     """The texts of tcpserver as a tool, where the program has it: those of its words too. A code is None where it is not found."""
     texts = texts_of(SERVER_FAULT, "ServerFault")
     found = word_texts()
-    codes = {}
-    for path in ("ucspi_tools/src/fault.rt", SERVER_FAULT):
-        for function in re.findall(r"fn (\w+)\(\w+: TcpserverFault\) -> u8", read(path)):
-            codes.update({key: code for key, code in codes_of(read(path), function, "ServerFault", texts).items() if code})
+    codes = codes_of(TOOL_FAULT, "ServerFault", texts)
     for variant, text in texts.items():
         if "Fault" not in text:
-            found["tcpserver: " + text] = codes.get(variant)
+            found["tcpserver: " + text] = codes[variant]
     return found
 
 
@@ -353,7 +344,7 @@ def check_program(checks):
     if "tcpserver" not in tools:
         listed = {item for item in listed if not item.startswith("tcpserver ")}
     checks.same("ucspi: tools", listed, set(tools.values()))
-    usage = re.search(r'"usage: (ucspi [^"]*)"', read("ucspi_tools/src/fault.rt")).group(1)
+    usage = re.search(r'"usage: (ucspi [^"]*)"', read(TOOL_FAULT)).group(1)
     checks.same("ucspi: texts", page.texts(), {"ucspi: usage: " + usage: 100, "ucspi: write fault": 111, "ucspi: out of memory": 111})
     words = set(re.findall(r'const \w+: &str = "(--\w+)"', read("ucspi_tools/src/choice.rt")))
     checks.same("ucspi: words of its own", set(re.findall(r"--\w+", " ".join(page.section("DESCRIPTION")))), words)

@@ -6,57 +6,63 @@ ghost use Rattle.server_words.specs.declared.fault.ServerWordsFault.TheVariants 
 
 use server_words::ServerWordsFault;
 use std::alloc::AllocError;
+use std::fmt;
+use std::fmt::Display;
 use std::io::Error;
-use thiserror::Error;
 
-/// Why `tcpserver` ends. It prints as what stands behind the tool's name.
-#[derive(Clone, Copy, PartialEq, Eq, Debug, Error)]
+/// Why `tcpserver` ends.
+#[derive(Clone, Copy)]
 pub enum TcpserverFault {
     /// Its words are wrong, or there was no memory to read them.
-    #[error("{0}")]
-    Words(#[from] ServerWordsFault),
+    Words(ServerWordsFault),
     /// Its words are right, and its server ends.
-    #[error("{0}")]
-    Server(#[from] ServerFault),
+    Server(ServerFault),
 }
 
 /// Why a server ends whose words are right, in the order of its checks. It prints as what stands behind the tool's name.
-#[derive(Clone, Copy, PartialEq, Eq, Debug, Error)]
+#[derive(Clone, Copy)]
 pub enum ServerFault {
     /// SIGCHLD is ignored, so that the system forgets how programs end.
-    #[error("cannot wait for programs")]
     CannotWait,
     /// The host table could not be read.
-    #[error("read fault")]
     ReadFault,
     /// This line of the host table, from 1, is none.
-    #[error("host table line {0}")]
     BadHosts(u64),
     /// The folder of the rules file is not there, or the last part of its path is no name.
-    #[error("device fault")]
     Device,
     /// The port could not be printed.
-    #[error("write fault")]
     WriteFault,
     /// It can't listen at that address and port.
-    #[error("cannot listen")]
     CannotListen,
     /// A hundred faults of accepting came in succession.
-    #[error("accept fault")]
     AcceptFault,
     /// No child of any place could be waited for.
-    #[error("no places left")]
     NoPlaces,
     /// A connection is alive that no thread has, and that is not retired: the server has lost it.
-    #[error("lost connection")]
     LostConnection,
     /// There was no memory for the server itself.
-    #[error("out of memory")]
     OutOfMemory,
 }
 
-/// Why `tcpserver` ends, and the system's number of the error (`errno`) by which it does, where it has one.
-#[derive(Clone, Copy, PartialEq, Eq, Debug)]
+impl Display for ServerFault {
+    fn fmt<W: fmt::Write>(&self, f: &mut fmt::Formatter<W>) -> fmt::Result {
+        f.write_str(match self {
+            ServerFault::CannotWait => "cannot wait for programs",
+            ServerFault::ReadFault => "read fault",
+            ServerFault::BadHosts(line) => return write!(f, "host table line {line}"),
+            ServerFault::Device => "device fault",
+            ServerFault::WriteFault => "write fault",
+            ServerFault::CannotListen => "cannot listen",
+            ServerFault::AcceptFault => "accept fault",
+            ServerFault::NoPlaces => "no places left",
+            ServerFault::LostConnection => "lost connection",
+            ServerFault::OutOfMemory => "out of memory",
+        })
+    }
+}
+
+/// Why a server ends, and the system's number of the error (`errno`) by which it does, where it has one.
+#[derive(Clone, Copy)]
 pub struct ServerFailure {
     /// Why.
     pub fault: ServerFault,
@@ -87,14 +93,6 @@ impl From<AllocError> for ServerFailure {
 
     fn from(_error: AllocError) -> ServerFailure {
         ServerFailure::from(ServerFault::OutOfMemory)
-    }
-}
-
-impl From<AllocError> for ServerFault {
-    ghost from_gives = { λ _ fault. fault ≡ OutOfMemory };
-
-    fn from(_error: AllocError) -> ServerFault {
-        ServerFault::OutOfMemory
     }
 }
 

@@ -1,6 +1,6 @@
 //! The limits that the system sets for this process, and what they leave a server for its connections.
 ghost use Rattle.std.specs.Prelude.{◌≡◌};
-ghost use Rattle.server_parts.specs.Limits.{at_once_in, room_of, small_limit};
+ghost use Rattle.server_parts.specs.Limits.{at_once_in, small_limit};
 ghost use Rattle.server_parts.specs.Services.{IsSupplyIn};
 
 use libc::net::POLLNVAL;
@@ -52,19 +52,6 @@ impl MemoryLimits {
             data: limit_on(DATA),
             addresses: limit_on(ADDRESSES),
         }
-    }
-
-    // Whether there is any.
-    fn is_any(self) -> bool {
-        self.data != UNLIMITED || self.addresses != UNLIMITED
-    }
-
-    // How much they leave beside what a server takes alone.
-    fn room(self) -> u64
-        ensures { result ≡ room_of self }
-    {
-        let data = self.data.saturating_sub(DATA_ALONE);
-        data.min(self.addresses.saturating_sub(ADDRESSES_ALONE))
     }
 }
 
@@ -118,6 +105,7 @@ pub fn supply_for(mode: Mode, connections: u64, variables: usize) -> Supply
     let texts = variables.saturating_mul(4).saturating_add(TEXTS);
     let start = texts.saturating_mul(PAGE).saturating_add(START);
     let limits = MemoryLimits::own();
+    let is_limited = limits.data != UNLIMITED || limits.addresses != UNLIMITED;
     let at_once = at_once_in(limits, start);
     let memory = Memory {
         at_once: at_once as u64,
@@ -128,20 +116,18 @@ pub fn supply_for(mode: Mode, connections: u64, variables: usize) -> Supply
         descriptors,
         to_begin,
         to_go_on,
-        memory: limits.is_any().then_some(memory),
+        memory: is_limited.then_some(memory),
     }
 }
 
 // How many connections may be there at once whose program is not started yet, where memory is limited and each takes so much: four where there is
-// room for five, and else one. Where it is one the server saves threads too.
+// room for five beside what a server takes alone, and else one. Where it is one the server saves threads too.
 fn at_once_in(limits: MemoryLimits, start: usize) -> usize
     ensures { result ≡ at_once_in limits start }
 {
-    if start as u64 <= limits.room() / 5 {
-        4
-    } else {
-        1
-    }
+    let data = limits.data.saturating_sub(DATA_ALONE);
+    let room = data.min(limits.addresses.saturating_sub(ADDRESSES_ALONE));
+    if start as u64 <= room / 5 { 4 } else { 1 }
 }
 
 /// What a limit on memory counts.

@@ -1,22 +1,21 @@
 //! What a server opens before it begins: its files, folder, socket and program.
 ghost use Rattle.std.specs.Prelude.{◌≡◌, ◌⊎◌, [], map, option_map, string_bytes, IsTrue, IfOk, IfErr, Some};
 ghost use Rattle.server_parts.specs.Asked.{FailsNames, FailsRules, IsAskedPlan};
-ghost use Rattle.server_parts.specs.Services.{AreNamesOf, AreRulesOf, program_by};
-ghost use Rattle.server_parts.specs.declared.fault.ServerFault.TheVariants.{CannotListen, OutOfMemory, WriteFault};
-ghost use Rattle.server_words.specs.OptionWords.{text_of};
+ghost use Rattle.server_parts.specs.Services.{AreNamesOf, AreRulesOf};
+ghost use Rattle.server_parts.specs.declared.fault.ServerFault.TheVariants.{CannotListen, WriteFault};
 ghost use Rattle.stream_tools.specs.Entries.{with_entries};
 
 use crate::fault::{ServerFailure, ServerFault};
 use child_jobs::{HostFault, HostTable, Plan, Program};
 use dir_calls::{Name, NameFault};
-use dir_disk::{FolderError, FolderFault, find_folder};
+use dir_disk::{FolderFault, find_folder};
 use rule_lookup::WhenMissing;
 use rules_tools::path::{folder_path, split_path};
 use server_words::ServerWords;
 use std::alloc::{AllocError, Global};
 use std::fs::{File, Files};
 use std::io::Write;
-use std::net::{Ipv4Addr, Net, OpenListener, SocketAddr, SocketAddrV4, TcpListener};
+use std::net::{Ipv4Addr, Net, SocketAddr, SocketAddrV4, TcpListener};
 use std::os::fd::AsRawFd;
 use std::{fs, io};
 use stream_tools::started::{Given, inherited_variables};
@@ -48,22 +47,16 @@ pub fn names_of<F: Files + AllocGlobal>(
         Some(path) => Some(read_hosts(alloc, files, path)?),
         None => None,
     };
+    let local = match words.local() {
+        Some(name) => Some(String::from_str(alloc, name)?),
+        None => None,
+    };
     Ok(HostNames {
         hosts,
-        local: copy_of(alloc, words.local())?,
+        local,
         remote: words.names_remote(),
         confirm: words.confirms(),
     })
-}
-
-// An equal text, where there is one.
-fn copy_of(alloc: Global, text: Option<&str>) -> Result<Option<String>, AllocError>
-    ensures { IfOk result (λ copy. option_map string_bytes copy ≡ text_of text.entry) }
-{
-    match text {
-        Some(text) => Ok(Some(String::from_str(alloc, text)?)),
-        None => Ok(None),
-    }
 }
 
 // The host table of a file.
@@ -74,24 +67,17 @@ fn read_hosts<F: Files + AllocGlobal>(
 ) -> Result<HostTable, ServerFailure>
     ensures refused { IfErr result (λ failure. FailsNames (Some path.now) failure.fault) }
 {
-    let text = read_file(files, path)?;
+    let text = match fs::read(files, path) {
+        Ok(text) => text,
+        Err(error) if error.kind() == io::ErrorKind::OutOfMemory => {
+            return Err(ServerFailure::from(ServerFault::OutOfMemory));
+        }
+        Err(error) => return Err(ServerFailure::by(ServerFault::ReadFault, &error)),
+    };
     match HostTable::read(alloc, text.as_slice()) {
         Ok(table) => Ok(table),
         Err(HostFault::BadLine(line)) => Err(ServerFailure::from(ServerFault::BadHosts(line))),
         Err(HostFault::OutOfMemory) => Err(ServerFailure::from(ServerFault::OutOfMemory)),
-    }
-}
-
-// All that a file holds.
-fn read_file<F: Files + AllocGlobal>(files: &F, path: &str) -> Result<Vec<u8>, ServerFailure>
-    ensures refused { IfErr result (λ failure. FailsNames (Some path.now) failure.fault) }
-{
-    match fs::read(files, path) {
-        Ok(text) => Ok(text),
-        Err(error) if error.kind() == io::ErrorKind::OutOfMemory => {
-            Err(ServerFailure::from(ServerFault::OutOfMemory))
-        }
-        Err(error) => Err(ServerFailure::by(ServerFault::ReadFault, &error)),
     }
 }
 
@@ -118,20 +104,15 @@ pub fn find_rules<R: Files>(
     };
     match find_folder(files, folder_path(folder)) {
         Ok(()) => Ok(Some((name, words.missing()))),
-        Err(refused) => Err(failure_of(refused)),
+        Err(refused) => {
+            let fault = match refused.fault {
+                FolderFault::OutOfMemory => ServerFault::OutOfMemory,
+                FolderFault::NoFolder | FolderFault::Device => ServerFault::Device,
+            };
+            let error = refused.error;
+            Err(ServerFailure { fault, error })
+        }
     }
-}
-
-// The failure of a server whose folder can't be used.
-fn failure_of(refused: FolderError) -> ServerFailure
-    ensures refused { FailsRules result.fault }
-{
-    let fault = match refused.fault {
-        FolderFault::OutOfMemory => ServerFault::OutOfMemory,
-        FolderFault::NoFolder | FolderFault::Device => ServerFault::Device,
-    };
-    let error = refused.error;
-    ServerFailure { fault, error }
 }
 
 /// So many clients may wait with the system until they are accepted, or as many as it allows at all. Where fewer may, a burst of clients makes it
@@ -145,8 +126,7 @@ const WAITING: i32 = 4096;
 pub fn listen<R: Net>(net: &R, ip: [u8; 4], port: u16) -> Result<R::Listener, ServerFailure>
     ensures refused { IfErr result (λ failure. failure.fault ≡ CannotListen) }
 {
-    let [a, b, c, d] = ip;
-    let end = SocketAddr::V4(SocketAddrV4::new(Ipv4Addr::new(a, b, c, d), port));
+    let end = SocketAddr::V4(SocketAddrV4::new(Ipv4Addr::from(ip), port));
     match TcpListener::bind(net, end) {
         Ok(listener) => {
             // it listens; where that fails fewer clients may wait
@@ -157,45 +137,22 @@ pub fn listen<R: Net>(net: &R, ip: [u8; 4], port: u16) -> Result<R::Listener, Se
     }
 }
 
-/// Prints the port of a listening socket.
+/// Prints the port of a listening socket, as the system tells where it listens.
 ///
 /// # Errors
-/// `CannotListen` where the socket doesn't tell it, `WriteFault` where it could not be printed.
-pub fn print_port<R: Print, T: OpenListener>(rt: &R, listener: &T) -> Result<(), ServerFailure>
+/// `CannotListen` where the system doesn't tell it, `WriteFault` where it could not be printed.
+pub fn print_port<R: Print>(rt: &R, end: &io::Result<SocketAddr>) -> Result<(), ServerFailure>
     ensures refused { IfErr result (λ failure. (failure.fault ≡ CannotListen) ⊎ (failure.fault ≡ WriteFault)) }
 {
-    let end = match listener.local_addr() {
-        Ok(end) => end,
-        Err(error) => return Err(ServerFailure::by(ServerFault::CannotListen, &error)),
+    let port = match end {
+        Ok(end) => end.port(),
+        Err(error) => return Err(ServerFailure::by(ServerFault::CannotListen, error)),
     };
-    match write_port(&mut io::writer(rt), end.port()) {
+    let mut output = io::writer(rt);
+    match writeln!(output, "{port}").and_then(|()| output.flush()) {
         Ok(()) => Ok(()),
         Err(error) => Err(ServerFailure::by(ServerFault::WriteFault, &error)),
     }
-}
-
-/// Where a socket listens, as far as the system tells it.
-pub fn end_of_listener<T: OpenListener>(listener: &T) -> Option<([u8; 4], u16)> {
-    match listener.local_addr() {
-        Ok(SocketAddr::V4(end)) => Some((end.ip().octets(), end.port())),
-        _ => None,
-    }
-}
-
-// Writes a port and a line feed.
-fn write_port<W: Write>(writer: &mut W, port: u16) -> io::Result<()> {
-    let mut digits = itoa::Buffer::new();
-    writer.write_all(digits.format(port).as_bytes())?;
-    writer.write_all(b"\n")?;
-    writer.flush()
-}
-
-// The program, with all its arguments.
-fn program_of(alloc: Global, words: &ServerWords<'_>) -> Result<Program, AllocError>
-    ensures { IfOk result (λ program. program ≡ program_by words.now.service) }
-{
-    let args = copies_of(alloc, words.service().args())?;
-    Ok(Program::new(String::from_str(alloc, words.service().path())?, args))
 }
 
 // Equal texts.
@@ -217,12 +174,13 @@ pub fn plan_of<G: Given>(
     alloc: Global,
     given: &G,
     words: &ServerWords<'_>,
-) -> Result<Plan, ServerFault>
+) -> Result<Plan, AllocError>
     ensures asked { IfOk result (IsAskedPlan words.now) }
     ensures inherited { IsTrue G.honest → IfOk result (λ plan. plan.inherited ≡ with_entries [] (G.entries given.now)) }
-    ensures refused { IfErr result (λ fault. fault ≡ OutOfMemory) }
 {
-    let program = program_of(alloc, words)?;
+    let service = words.service();
+    let args = copies_of(alloc, service.args())?;
+    let program = Program::new(String::from_str(alloc, service.path())?, args);
     let inherited = inherited_variables(alloc, given)?;
     let banner = words.banner().to_vec(alloc)?;
     Ok(Plan::new(program, inherited, banner))

@@ -81,17 +81,30 @@ impl<'a, R: Processes + Files + Wait + Clock> ProgramStarter<'a, R> {
         ensures program { IfOk result (λ job. ⟦<OsJob as Job>⟧.program job ≡ program.now) }
         ensures environment { IfOk result (λ job. ⟦<OsJob as Job>⟧.environment job ≡ environment.now) }
     {
-        let start = || match stream {
-            Some(stream) => self.launcher.start_on(alloc, program, environment, stream),
-            None => self.launcher.start_between(alloc, program, environment),
-        };
         for waits in 0..WAITS {
-            match start() {
+            match self.start_once(alloc, program, environment, stream) {
                 Err(refused) if refused.error == Some(libc::EAGAIN) => self.wait_for_process(waits),
                 outcome => return outcome,
             }
         }
-        start()
+        self.start_once(alloc, program, environment, stream)
+    }
+
+    // Starts a program on this socket, or else between pipes.
+    fn start_once(
+        &self,
+        alloc: Global,
+        program: &Program,
+        environment: &Environment,
+        stream: Option<&OwnedFd>,
+    ) -> Result<OsJob, NotStarted>
+        ensures program { IfOk result (λ job. ⟦<OsJob as Job>⟧.program job ≡ program.now) }
+        ensures environment { IfOk result (λ job. ⟦<OsJob as Job>⟧.environment job ≡ environment.now) }
+    {
+        match stream {
+            Some(stream) => self.launcher.start_on(alloc, program, environment, stream),
+            None => self.launcher.start_between(alloc, program, environment),
+        }
     }
 
     // Waits for a process, after so many such waits: the one in reserve, or that of another program that ends.
@@ -123,20 +136,14 @@ impl<'a, R: Processes + Files + Wait + Clock> Starter<Holder<'a, R>> for Program
             }
         };
         let job = self.start_in_time(alloc, program, environment, stream.as_ref())?;
-        let end = End { rt: self.rt, over };
-        Ok(ServiceJob { job, end })
+        let rt = self.rt;
+        Ok(ServiceJob { job, rt, over })
     }
 }
 
 /// The program of a connection. The language lets nobody drop it: it is waited for, or abandoned.
 pub struct ServiceJob<'a, R> {
     job: OsJob,
-    end: End<'a, R>,
-}
-
-// What is noted of the end of a program.
-#[derive(Drop)]
-struct End<'a, R> {
     rt: &'a R,
     // whether it is over, for one that is pumped: it was waited for, or could not be
     over: Option<Arc<Mutex<bool>, Global>>,
@@ -161,10 +168,10 @@ impl<'a, R: Wait + Clock> Job for ServiceJob<'a, R> {
 
     fn ends(&mut self) -> Result<(ProgramInput<'a, R>, ChildStdout), NoEnds> {
         let (pipe, output) = self.job.ends()?;
-        let Ok(over) = Arc::try_clone(self.end.over.as_ref().ok_or(NoEnds)?) else {
+        let Ok(over) = Arc::try_clone(self.over.as_ref().ok_or(NoEnds)?) else {
             return Err(NoEnds);
         };
-        let (rt, pipe) = (self.end.rt, without_waiting(pipe));
+        let (rt, pipe) = (self.rt, without_waiting(pipe));
         Ok((ProgramInput { rt, pipe, over }, output))
     }
 
@@ -177,19 +184,23 @@ impl<'a, R: Wait + Clock> Job for ServiceJob<'a, R> {
     }
 
     fn wait(self) -> Result<Exit, (ServiceJob<'a, R>, WaitFault)> {
-        let ServiceJob { job, end } = self;
+        let ServiceJob { job, rt, over } = self;
         let outcome = job.wait();
-        if let Some(over) = &end.over {
-            *over.lock(end.rt) = true;
+        if let Some(over) = &over {
+            *over.lock(rt) = true;
         }
         match outcome {
             Ok(exit) => Ok(exit),
-            Err((job, fault)) => Err((ServiceJob { job, end }, fault)),
+            Err((job, fault)) => Err((ServiceJob { job, rt, over }, fault)),
         }
     }
 
     fn abandon(self) {
-        let ServiceJob { job, end: _ } = self;
+        let ServiceJob {
+            job,
+            rt: _,
+            over: _,
+        } = self;
         job.abandon();
     }
 }
@@ -217,12 +228,6 @@ impl<R: Wait + Clock> ProgramInput<'_, R> {
         *self.over.lock(self.rt)
     }
 
-    // The same after a wait for room, which a process that it left behind may have made.
-    fn is_over_after_wait(&self) -> bool {
-        self.wait_for_room();
-        self.is_over()
-    }
-
     // Waits until the pipe has room, but no longer than a pause.
     fn wait_for_room(&self) {
         let mut watched = [pollfd {
@@ -243,7 +248,11 @@ impl<R: Wait + Clock> Write for ProgramInput<'_, R> {
                 Err(error) if error.kind() == ErrorKind::WouldBlock => {}
                 outcome => return outcome,
             }
-            if self.is_over() || self.is_over_after_wait() {
+            if !self.is_over() {
+                self.wait_for_room();
+            }
+            // (what made room may be a process that the program left behind)
+            if self.is_over() {
                 return Err(Error::from(ErrorKind::BrokenPipe));
             }
         }

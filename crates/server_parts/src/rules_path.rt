@@ -1,11 +1,11 @@
 //! Where the rules file of a server stands.
-ghost use Rattle.std.specs.Prelude.{◌≡◌, IfOk};
+ghost use Rattle.std.specs.Prelude.{IfOk};
 ghost use Rattle.dir_disk.specs.OsParts.{os_disk, system_folder};
 ghost use Rattle.server_parts.specs.RulesPaths.{IsFolderOfPath};
 
 use crate::named_rules::has_named_rule;
 use cdb_files::CdbFile;
-use dir_calls::{Dir, Name, RulesFile};
+use dir_calls::{Dir, Name};
 use dir_disk::{NoWait, OsDir, OsFile, SystemFile};
 use rule_lookup::{DecideFault, Peer, RuleSource, forms};
 use rules_tools::path::{folder_path, split_path};
@@ -26,21 +26,21 @@ pub struct RulesPath<'a, R> {
     pub name: Option<&'a Name>,
 }
 
-impl<'a, R> RulesPath<'a, R> {
-    /// This path among the system's files, with its last part.
-    pub fn new(files: &'a R, path: &'a str, name: Option<&'a Name>) -> RulesPath<'a, R>
-        ensures path { result.path.now ≡ path.now }
-        ensures name { result.name ≡ name.entry }
-    {
-        RulesPath { files, path, name }
-    }
-}
-
 impl<'a, R: Files<File = File>> RulesPath<'a, R> {
     /// Whether the file that stands there has a rule by name, as far as that can be seen.
     pub fn name_someone(&self, alloc: Global) -> bool {
-        self.look(alloc)
-            .is_some_and(|file| has_named_rule(alloc, &file))
+        // (to open something other than a file may take for ever)
+        let is_file = match self.files.metadata(self.path) {
+            Ok(found) => found.is_file(),
+            Err(_) => false,
+        };
+        if !is_file {
+            return false;
+        }
+        match File::open(self.files, self.path) {
+            Ok(file) => has_named_rule(alloc, file),
+            Err(_) => false,
+        }
     }
 
     /// The folder, which is not opened yet: the system is not called.
@@ -61,32 +61,23 @@ impl<'a, R: Files<File = File>> RulesPath<'a, R> {
     /// The address of the rule that is met first for this client in the file that stands there now, if that rule is
     /// damaged. `None` too if the file can't be read, or there is no memory.
     pub fn damaged_rule(&self, alloc: Global, peer: &Peer) -> Option<String> {
-        let file = CdbFile::new(self.look(alloc)?);
-        first_damaged(alloc, &file, forms(alloc, peer).ok()?)
-    }
-
-    // The file that stands there now, if it can be opened.
-    fn look(&self, alloc: Global) -> Option<RulesOnDisk> {
         let name = self.name?;
-        let mut dir = self.folder(alloc).ok()?;
-        let found = dir.open(alloc, name);
-        drop(dir);
-        found.ok()?
+        damaged_in(alloc, self.folder(alloc).ok()?, name, peer)
     }
 }
 
-// The first of these addresses under which a file has something, where that is no instruction.
-fn first_damaged<F: RulesFile>(
-    alloc: Global,
-    file: &CdbFile<F>,
-    addresses: Vec<String>,
-) -> Option<String> {
-    for address in addresses {
+// The first of a client's addresses under which the file of this name in a folder has something, where that is no
+// instruction.
+fn damaged_in<D: Dir + Drop>(alloc: Global, dir: D, name: &Name, peer: &Peer) -> Option<String> {
+    let mut dir = dir;
+    let found = dir.open(alloc, name);
+    drop(dir);
+    let file = CdbFile::new(found.ok()??);
+    for address in forms(alloc, peer).ok()? {
         match file.find_instr(alloc, address.as_bytes()) {
             Ok(None) => {}
-            Ok(Some(_)) => return None,
             Err(DecideFault::Code(_)) => return Some(address),
-            Err(_) => return None,
+            _ => return None,
         }
     }
     None

@@ -13,15 +13,10 @@ const DIGIT: usize = 11;
 
 /// Whether SIGCHLD is ignored, so that the system forgets how programs end. Where it does not tell so, it counts as not ignored.
 pub fn forgets_programs<F: Files<File = File> + AllocGlobal>(files: &F) -> bool {
-    match fs::read(files, STATUS) {
-        Ok(status) => is_told_in(status.as_slice()),
-        Err(_) => false,
-    }
-}
-
-// Whether the status of a process has SIGCHLD among the signals that are ignored.
-fn is_told_in(status: &[u8]) -> bool {
-    let Some(line) = memmem::find(status, IGNORED) else {
+    let Ok(status) = fs::read(files, STATUS) else {
+        return false;
+    };
+    let Some(line) = memmem::find(&status, IGNORED) else {
         return false;
     };
     let position = line.saturating_add(IGNORED.len()).saturating_add(DIGIT);

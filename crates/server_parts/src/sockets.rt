@@ -9,7 +9,7 @@ use server_words::Mode;
 use std::alloc::Global;
 use std::io;
 use std::io::{Error, ErrorKind, Read};
-use std::net::{OpenListener, Shutdown, SocketAddr, TcpStream};
+use std::net::{OpenListener, Shutdown, SocketAddr, SocketAddrV4, TcpStream};
 use std::os::fd::{AsRawFd, OwnedFd};
 use std::sync::{Arc, Mutex, Wait};
 use std::time::Clock;
@@ -42,15 +42,6 @@ pub struct Holder<'a, R> {
 }
 
 impl<'a, R: Wait> Holder<'a, R> {
-    // Another of them; none for want of memory.
-    fn another(&self) -> Option<Holder<'a, R>> {
-        Some(Holder {
-            rt: self.rt,
-            socket: Arc::try_clone(&self.socket).ok()?,
-            followed: None,
-        })
-    }
-
     /// Takes the socket out, to be given to a program. It is there once, and never where it is shared.
     pub fn take(&self) -> Option<OwnedFd> {
         match &*self.socket {
@@ -125,10 +116,14 @@ impl<'a, R: Wait, T: OpenListener<Stream = TcpStream>> SocketAcceptor<'a, R, T> 
         }
     }
 
-    // Waits for the next connection: its socket, and where its ends are, the server's first.
-    fn next(&self) -> io::Result<(SocketAddr, TcpStream, SocketAddr)> {
+    // Waits for the next connection: its socket, and where its ends are, the server's first. It is an error too if one is
+    // no IPv4 end.
+    fn next(&self) -> io::Result<(SocketAddrV4, TcpStream, SocketAddrV4)> {
         let (stream, peer) = self.listener.accept()?;
-        Ok((stream.local_addr()?, stream, peer))
+        match (stream.local_addr()?, peer) {
+            (SocketAddr::V4(local), SocketAddr::V4(peer)) => Ok((local, stream, peer)),
+            _ => Err(Error::from(ErrorKind::Other)),
+        }
     }
 
     // Three holders of a connection's socket; none for want of memory.
@@ -137,12 +132,14 @@ impl<'a, R: Wait, T: OpenListener<Stream = TcpStream>> SocketAcceptor<'a, R, T> 
             Mode::HandedOver => Socket::Given(Mutex::new(Some(stream))),
             Mode::Pumped => Socket::Shared(stream),
         };
-        let first = Holder {
+        let shared = Arc::new(self.alloc, socket).ok()?;
+        let hold = |socket| Holder {
             rt: self.rt,
-            socket: Arc::new(self.alloc, socket).ok()?,
+            socket,
             followed: None,
         };
-        Some((first.another()?, first.another()?, first))
+        let (first, second) = (Arc::try_clone(&shared).ok()?, Arc::try_clone(&shared).ok()?);
+        Some((hold(first), hold(second), hold(shared)))
     }
 }
 
@@ -158,41 +155,25 @@ where
             Ok(next) => next,
             Err(error) => return Err(error_of(&error)),
         };
-        let (Some(local), Some(peer)) = (ipv4(local), ipv4(peer)) else {
-            return Err(AcceptError {
-                lacks_room: false,
-                number: None,
-            });
-        };
         if self.sends_at_once {
             let _ = stream.set_nodelay(true);
         }
         let Some((reader, writer, shut)) = self.holders(stream) else {
             return Ok(None);
         };
-        let (ip, port) = peer;
-        let (local_ip, local_port) = local;
         Ok(Some(Accepted {
             reader,
             writer,
             shut,
-            ip,
-            port,
-            local: Local::new(local_ip, local_port, None),
+            ip: peer.ip().octets(),
+            port: peer.port(),
+            local: Local::new(local.ip().octets(), local.port(), None),
         }))
     }
 
     // (a server whose `shutdown` the system refuses ends only once each thread that waits has got a connection)
     fn wake(&self) {
         let _ = libc::net::shutdown(self.listener.as_raw_fd(), SHUT_RD);
-    }
-}
-
-// The address and port of an end, if it is an IPv4 one.
-fn ipv4(end: SocketAddr) -> Option<([u8; 4], u16)> {
-    match end {
-        SocketAddr::V4(end) => Some((end.ip().octets(), end.port())),
-        SocketAddr::V6(_) => None,
     }
 }
 

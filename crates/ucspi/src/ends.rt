@@ -21,21 +21,11 @@ pub(crate) fn end_of<H: Host>(served: Closed<H>) -> Result<Finished, ServerFailu
 {
     let (has_lost, end, error) = (served.has_lost, served.end, served.errors.last);
     drop(served);
-    match failure_of(has_lost, end, error) {
-        Ok(()) => Ok(Finished(())),
-        Err(failure) => Err(failure),
-    }
-}
-
-// Why the tool fails, by how its server ended and this error.
-fn failure_of(has_lost: bool, end: ServeEnd, error: Option<i32>) -> Result<(), ServerFailure>
-    ensures { result ≡ told_of has_lost end error }
-{
     if has_lost {
         return Err(ServerFailure::from(ServerFault::LostConnection));
     }
     match end {
-        ServeEnd::Count | ServeEnd::Spent => Ok(()),
+        ServeEnd::Count | ServeEnd::Spent => Ok(Finished(())),
         ServeEnd::NoPlaces => Err(ServerFailure::from(ServerFault::NoPlaces)),
         ServeEnd::AcceptFaults => Err(ServerFailure {
             fault: ServerFault::AcceptFault,

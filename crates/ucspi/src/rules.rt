@@ -17,21 +17,9 @@ use tcp_service::{Rules, RulesHandle};
 /// The rules at a path of the system, of which nothing is known.
 #[derive(Drop)]
 pub(crate) struct FolderRules<'a, L: Assumptions, R> {
-    at: RulesPath<'a, R>,
-    yard: PhantomData<L>,
+    pub at: RulesPath<'a, R>,
+    pub yard: PhantomData<L>,
     ghost unmet: { L.met ≡ false },
-}
-
-impl<'a, L: Assumptions, R> FolderRules<'a, L, R> {
-    /// Those at this path.
-    pub(crate) fn new(at: RulesPath<'a, R>) -> FolderRules<'a, L, R>
-        requires { L.met ≡ false }
-    {
-        FolderRules {
-            at,
-            yard: PhantomData,
-        }
-    }
 }
 
 impl<'a, L: Assumptions, R: Files<File = File>> Rules<L, RulesOnDisk> for FolderRules<'a, L, R> {

@@ -1,16 +1,15 @@
 //! The tool: its words, what it opens, and the server.
-ghost use Rattle.std.specs.Prelude.{◌≡◌, ◌⊎◌, false, map, IfOk, IfErr, vec_len};
+ghost use Rattle.std.specs.Prelude.{◌≡◌, ◌⊎◌, false, true, map, IfOk, IfErr};
 ghost use Rattle.fault_hints.specs.Voices.{mode_by_name};
 ghost use Rattle.server_parts.specs.Asked.{FailsNames, starts_in};
 ghost use Rattle.server_parts.specs.Services.{AreRulesOf};
 ghost use Rattle.server_parts.specs.declared.fault.ServerFault.TheVariants.{CannotListen, OutOfMemory, WriteFault};
-ghost use Rattle.ucspi.specs.Asked.{AcceptsAsAsked, AreAsked, AreAskedLimits, IsAskedLog, IsAskedService};
+ghost use Rattle.ucspi.specs.Asked.{AcceptsAsAsked, AreAsked, AreAskedLimits, IsAskedLog};
 ghost use Rattle.ucspi.specs.Words.{AnswersWords};
 ghost use Rattle.server_words.specs.Operands.{texts};
 ghost use Rattle.server_words.specs.Plans.{plan_of as plan_by_words};
 ghost use Rattle.server_yard.specs.Kept.{rules_of};
 ghost use Rattle.server_yard.specs.Yards.{yard_books, yard_rules, yard_server};
-ghost use Rattle.shared_site.specs.Callers.{total_share};
 ghost use Rattle.stream_tools.specs.Programs.{text_in, texts_of};
 
 use crate::ends::{Finished, end_of};
@@ -19,24 +18,24 @@ use crate::rules::FolderRules;
 use crate::system::{OnSystem, System, SystemOf};
 use child_jobs::Plan;
 use dir_calls::Name;
-use fault_hints::Voice;
+use fault_hints::{Voice, append_help};
 use rule_lookup::WhenMissing;
 use server_events::Journal;
-use server_parts::causes::{tell_failure, tell_words};
+use server_parts::causes::tell_failure;
 use server_parts::limits::supply_for;
-use server_parts::opening::{end_of_listener, find_rules, names_of, plan_of, print_port, stand_in};
+use server_parts::opening::{find_rules, names_of, plan_of, print_port, stand_in};
 use server_parts::signals::forgets_programs;
 use server_parts::{
     ProgramStarter, RulesPath, ServerFailure, ServerFault, SocketAcceptor, TcpserverFault,
 };
 use server_words::{Level, ServerWords, read_server_words};
 use server_yard::{Assumptions, Yard};
-use shared_site::{Caller, Callers, Site};
+use shared_site::{Callers, Site, YardOf};
 use std::alloc::Global;
 use std::fs::{File, Files};
 use std::io::Write;
-use std::marker::Brand;
-use std::net::{Net, TcpStream};
+use std::marker::{Brand, PhantomData};
+use std::net::{Net, OpenListener, SocketAddr, TcpStream};
 use std::process::{ChildStdin, OpenProcess, Processes};
 use std::rt::Env;
 use std::sync::ledger::Blank;
@@ -45,7 +44,7 @@ use std::thread::Threads;
 use std::time::{Clock, Duration};
 use stream_tools::SearchPath;
 use stream_tools::started::{SystemGiven, texts_of};
-use tcp_service::{Log, Patience, Reserve, Service, serve};
+use tcp_service::{Acceptor, Host, Log, Patience, Reserve, Service, serve};
 
 /// For so many seconds in succession a client whose connection is pumped may take nothing of what its program left for
 /// it.
@@ -91,11 +90,11 @@ where
 
 // What a server has but for its site and its socket.
 #[derive(Drop)]
-struct ServerParts<'a, P: System> {
+struct ServerParts<'a, E> {
     plan: Plan,
     search: SearchPath,
     service: Service<'a>,
-    log: Mutex<Log<P::Errors>>,
+    log: Mutex<Log<E>>,
 }
 
 // Runs the tool with these words. Here and below, what a function owns it lends to the calls that follow: they have the
@@ -123,7 +122,7 @@ fn run_words<P: System + Send + Sync>(
         }
         Err(fault) => {
             drop(errors);
-            tell_words(rt.alloc(), voice, words, fault, causes);
+            let _ = append_help(causes, rt.alloc(), voice, words, fault);
             Err(TcpserverFault::Words(fault))
         }
     }
@@ -139,30 +138,44 @@ fn run_server<P: System + Send + Sync>(
     if forgets_programs(rt) {
         return Err(ServerFailure::from(ServerFault::CannotWait));
     }
-    let server = parts_of::<P>(rt, errors, words, voice)?;
-    open_and_run(rt, &server, words)
+    let server = parts_of(rt, errors, words, voice)?;
+    open_and_run::<P>(rt, &server, words)
 }
 
 // What a server has by its words, but for its site and its socket.
-fn parts_of<'a, P: System>(
-    rt: &P::Runtime,
-    errors: P::Errors,
+fn parts_of<'a, R: Env + AllocGlobal + Files, E: Write + Drop>(
+    rt: &R,
+    errors: E,
     words: &'a ServerWords<'_>,
     voice: Voice,
-) -> Result<ServerParts<'a, P>, ServerFailure>
+) -> Result<ServerParts<'a, E>, ServerFailure>
     ensures asked { IfOk result (λ server. AreAsked words.now server.plan server.service) }
     ensures refused { IfErr result (λ failure. FailsNames words.now.hosts failure.fault) }
 {
     let alloc = rt.alloc();
-    let log = log_of(alloc, errors, words, voice);
     let plan = plan_of(alloc, &SystemGiven(rt), words)?;
-    let service = service_of(rt, words, &plan)?;
+    let names = names_of(alloc, rt, words)?;
     let search = SearchPath::own(alloc, rt)?;
+    let (mode, limits, wrapping) = (words.mode(), words.limits(), words.wrapping());
+    let supply = supply_for(mode, limits.connections, plan.inherited().len());
     Ok(ServerParts {
         plan,
         search,
-        service,
-        log: Mutex::new(log),
+        service: Service {
+            limits,
+            names,
+            mode,
+            patience: Patience {
+                idle: Duration::from_secs(IDLE),
+                all: Duration::from_secs(ALL),
+            },
+            recording: wrapping.records(),
+            input: wrapping.input(),
+            output: wrapping.output(),
+            supply,
+            reserve: Reserve::new(),
+        },
+        log: Mutex::new(log_of(alloc, errors, words, voice)),
     })
 }
 
@@ -174,39 +187,11 @@ fn log_of<W: Write>(alloc: Global, errors: W, words: &ServerWords<'_>, voice: Vo
     Log::new(alloc, errors, level, voice, limit)
 }
 
-// What a server does for all connections.
-fn service_of<'a, R: AllocGlobal + Files>(
-    rt: &R,
-    words: &'a ServerWords<'_>,
-    plan: &Plan,
-) -> Result<Service<'a>, ServerFailure>
-    ensures asked { IfOk result (IsAskedService words.now) }
-    ensures refused { IfErr result (λ failure. FailsNames words.now.hosts failure.fault) }
-{
-    let names = names_of(rt.alloc(), rt, words)?;
-    let (mode, limits) = (words.mode(), words.limits());
-    let supply = supply_for(mode, limits.connections, plan.inherited().len());
-    Ok(Service {
-        limits,
-        names,
-        mode,
-        patience: Patience {
-            idle: Duration::from_secs(IDLE),
-            all: Duration::from_secs(ALL),
-        },
-        recording: words.wrapping().records(),
-        input: words.wrapping().input(),
-        output: words.wrapping().output(),
-        supply,
-        reserve: Reserve::new(),
-    })
-}
-
 // Looks for the folder of the rules, opens the socket, and runs the server on them.
-fn open_and_run<P: System + Send + Sync>(
-    rt: &P::Runtime,
-    server: &ServerParts<'_, P>,
-    words: &ServerWords<'_>,
+fn open_and_run<'a, P: System + Send + Sync>(
+    rt: &'a P::Runtime,
+    server: &'a ServerParts<'_, P::Errors>,
+    words: &'a ServerWords<'_>,
 ) -> Result<Finished, ServerFailure>
     requires asked { AreAsked words.now server.now.plan server.now.service }
 {
@@ -216,13 +201,13 @@ fn open_and_run<P: System + Send + Sync>(
         Some((name, _)) => Some(name.copy(alloc)?),
         None => None,
     };
-    let at = RulesPath::new(rt, words.rules().unwrap_or_default(), name.as_ref());
     let acceptor = open_socket::<P>(rt, &server.log, words)?;
-    if words.hosts().is_none() && words.level() == Level::All && at.name_someone(alloc) {
-        let _ = server.log.lock(rt).no_names();
-    }
+    let starter = ProgramStarter::new(rt, words.mode(), &server.search, &server.service.reserve);
     let (places, parts) = (Blank::new(words.limits().connections), Blank::new(CALLERS));
-    run_site::<Brand, Brand, P>(rt, server, acceptor, rules, at, words, places, parts)
+    let name = name.as_ref();
+    run_site::<Brand, Brand, P>(
+        rt, server, acceptor, rules, name, &starter, words, places, parts,
+    )
 }
 
 // The connections of a socket that listens where the words say, which a person is told. Its port is printed where the
@@ -236,24 +221,26 @@ fn open_socket<'a, P: System>(
     ensures refused { IfErr result (λ failure. (failure.fault ≡ CannotListen) ⊎ (failure.fault ≡ WriteFault)) }
 {
     let listener = P::listen(rt, words.service().address(), words.service().port())?;
+    let end = listener.local_addr();
     if words.prints_port() {
-        print_port(rt, &listener)?;
+        print_port(rt, &end)?;
     }
-    if let Some(end) = end_of_listener(&listener) {
-        let ip = end.0;
-        let _ = log.lock(rt).listening(ip, end.1);
+    if let Ok(SocketAddr::V4(end)) = end {
+        let _ = log.lock(rt).listening(end.ip().octets(), end.port());
     }
     let (mode, at_once) = (words.mode(), words.sends_at_once());
     Ok(SocketAcceptor::new(rt, rt.alloc(), mode, listener, at_once))
 }
 
-// The server over a yard and a site of its own.
+// The server over a yard of its own, which serves by what was made of the words. A person is told before, where rules
+// are by names that clients don't have.
 fn run_site<'a, L: Assumptions + Send + Sync, N: Callers + Send + Sync, P: System + Send + Sync>(
     rt: &'a P::Runtime,
-    server: &'a ServerParts<'_, P>,
+    server: &'a ServerParts<'_, P::Errors>,
     acceptor: SocketAcceptor<'a, P::Runtime, P::Listener>,
     rules: Option<(Name, WhenMissing)>,
-    at: RulesPath<'a, P::Runtime>,
+    name: Option<&'a Name>,
+    starter: &'a ProgramStarter<'a, P::Runtime>,
     words: &'a ServerWords<'_>,
     places: Blank,
     parts: Blank,
@@ -266,12 +253,34 @@ fn run_site<'a, L: Assumptions + Send + Sync, N: Callers + Send + Sync, P: Syste
     requires asked { AreAsked words.now server.now.plan server.now.service }
     requires rules { AreRulesOf words.now rules }
     requires accepts { AcceptsAsAsked P.listens words.now acceptor }
+    requires starts { starts_in starter.now ≡ words.now.mode }
 {
-    let yard = yard_of::<L>(rt.alloc(), rules, words, places)?;
-    let made = Site::<OnSystem<'a, P, L, N>>::new(rt.alloc(), parts, yard, CALLERS);
-    let (site, callers) = made.map_err(|_| ServerFault::OutOfMemory)?;
-    let starter = ProgramStarter::new(rt, words.mode(), &server.search, &server.service.reserve);
-    serve_on(rt, server, acceptor, site, callers, at, &starter, words)
+    let (alloc, path) = (rt.alloc(), words.rules().unwrap_or_default());
+    let at = RulesPath {
+        files: rt,
+        path,
+        name,
+    };
+    if words.hosts().is_none() && words.level() == Level::All && at.name_someone(alloc) {
+        let _ = server.log.lock(rt).no_names();
+    }
+    let yard = yard_of::<L>(alloc, rules, words, places)?;
+    let rules = FolderRules::<L, P::Runtime> {
+        at,
+        yard: PhantomData,
+    };
+    serve_at_site::<OnSystem<'a, P, L, N>, SocketAcceptor<'a, P::Runtime, P::Listener>>(
+        rt,
+        alloc,
+        acceptor,
+        yard,
+        parts,
+        &rules,
+        starter,
+        &server.plan,
+        &server.service,
+        &server.log,
+    )
 }
 
 // A yard of this rules file, with the limits of the words.
@@ -292,7 +301,7 @@ fn yard_of<L: Assumptions>(
     ensures refused { IfErr result (λ fault. fault ≡ OutOfMemory) }
 {
     let limits = words.limits();
-    let yard = Yard::<L, NoFolder>::with_address_limit(
+    let made = Yard::<L, NoFolder>::with_address_limit(
         alloc,
         places,
         NoFolder,
@@ -301,39 +310,52 @@ fn yard_of<L: Assumptions>(
         limits.per_address,
         Journal::counting(),
     );
-    yard.map_err(|_| ServerFault::OutOfMemory)
+    match made {
+        Ok(yard) => Ok(yard),
+        Err(_) => Err(ServerFault::OutOfMemory),
+    }
 }
 
-// Serves the connections of a socket at a site, in the mode of the words.
-fn serve_on<'a, L: Assumptions + Send + Sync, N: Callers + Send + Sync, P: System + Send + Sync>(
-    rt: &'a P::Runtime,
-    server: &'a ServerParts<'_, P>,
-    acceptor: SocketAcceptor<'a, P::Runtime, P::Listener>,
-    site: Site<OnSystem<'a, P, L, N>>,
-    callers: Vec<Caller<N>>,
-    at: RulesPath<'a, P::Runtime>,
-    starter: &ProgramStarter<'a, P::Runtime>,
-    words: &'a ServerWords<'_>,
+// Serves connections at a site of its own, over this yard.
+fn serve_at_site<'a, H, A>(
+    rt: &'a H::Runtime,
+    alloc: Global,
+    acceptor: A,
+    yard: YardOf<H>,
+    parts: Blank,
+    rules: &'a H::Rules,
+    starter: &'a H::Starter,
+    plan: &'a Plan,
+    service: &'a Service<'a>,
+    log: &'a Mutex<Log<H::Lines>>,
 ) -> Result<Finished, ServerFailure>
-    requires met { L.met ≡ false }
-    requires callers { (N.all ≡ 2) × (N.parts ≡ 2) × (N.before ≡ 0)
-        × (vec_len callers ≡ 2) × (total_share callers.items ≡ 0) }
-    requires asked { AreAsked words.now server.now.plan server.now.service }
-    requires accepts { AcceptsAsAsked P.listens words.now acceptor }
-    requires starts { starts_in starter.now ≡ words.now.mode }
+where
+    H: Host + Send + Sync,
+    H::Runtime: Threads + Clock + Sync,
+    H::Places: Send + Sync,
+    H::Callers: Send + Sync,
+    H::File: Send,
+    H::Folder: Send,
+    H::Handle: Send,
+    H::Rules: Sync,
+    H::Lines: Send,
+    H::Holder: Send,
+    H::Starter: Sync,
+    H::Job: Send,
+    H::Input: Send,
+    H::Output: Send,
+    A: Acceptor<Holder = H::Holder> + Send + Sync + Drop,
+    requires servers { H.is_servers ≡ true }
+    requires parts { (parts.name ≡ H.Callers.name) × (parts.parts ≡ H.Callers.parts) × (parts.parts ≡ 2) }
+    requires callers { (H.Callers.all ≡ 2) × (H.Callers.before ≡ 0) }
+    requires new { (yard_books yard).count ≡ 0 }
 {
-    let rules = FolderRules::<L, P::Runtime>::new(at);
-    let served = serve::<OnSystem<'a, P, L, N>, SocketAcceptor<'a, P::Runtime, P::Listener>>(
-        rt,
-        rt.alloc(),
-        acceptor,
-        site,
-        callers,
-        &rules,
-        starter,
-        &server.plan,
-        &server.service,
-        &server.log,
+    let Ok((site, callers)) = Site::<H>::new(alloc, parts, yard, CALLERS) else {
+        drop(acceptor);
+        return Err(ServerFailure::from(ServerFault::OutOfMemory));
+    };
+    let served = serve::<H, A>(
+        rt, alloc, acceptor, site, callers, rules, starter, plan, service, log,
     );
     end_of(served)
 }

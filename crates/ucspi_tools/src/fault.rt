@@ -2,7 +2,7 @@
 ghost use Rattle.std.specs.Prelude.{◌≡◌, ◌++◌, OnOk};
 ghost use Rattle.std.specs.Io.KnownBytes.{Appends};
 ghost use Rattle.ucspi_tools.specs.Causes.{TellsLines, hint_of};
-ghost use Rattle.ucspi_tools.specs.Exits.{check_exit, end_code, exit_of, review_exit, rules_exit, script_exit, server_exit, status_exit, warned_exit};
+ghost use Rattle.ucspi_tools.specs.Exits.{exit_of, status_exit, warned_exit};
 
 use crate::tool::Tool;
 use child_jobs::Status;
@@ -62,7 +62,8 @@ impl Display for ToolFault {
                 f.write_str(tool.usage())
             }
             ToolFault::Usage => f.write_str("usage: ucspi TOOL ..."),
-            ToolFault::Server(fault) => fault.fmt(f),
+            ToolFault::Server(TcpserverFault::Words(fault)) => fault.fmt(f),
+            ToolFault::Server(TcpserverFault::Server(fault)) => fault.fmt(f),
             ToolFault::Script(fault) => fault.fmt(f),
             ToolFault::Rules(fault) => fault.fmt(f),
             ToolFault::Review(fault) => fault.fmt(f),
@@ -82,52 +83,17 @@ impl ToolFault {
     {
         match self {
             ToolFault::UsageOf(..) | ToolFault::Usage => BAD_INPUT,
-            ToolFault::Server(fault) => server_code(fault),
-            ToolFault::Script(fault) => script_code(fault),
-            ToolFault::Rules(fault) => rules_code(fault),
-            ToolFault::Review(fault) => review_code(fault),
-            ToolFault::Check(fault) => check_code(fault),
-            ToolFault::Filter(_) | ToolFault::Between(_) => SYSTEM_FAULT,
-            ToolFault::WriteFault | ToolFault::OutOfMemory => SYSTEM_FAULT,
+            ToolFault::Server(TcpserverFault::Words(fault)) => fault.exit_code(),
+            ToolFault::Server(TcpserverFault::Server(ServerFault::BadHosts(_))) => BAD_INPUT,
+            ToolFault::Script(SimFault::BadCommand(_)) => BAD_INPUT,
+            ToolFault::Rules(TcprulesFault::ReadFault | TcprulesFault::Device(_)) => SYSTEM_FAULT,
+            ToolFault::Rules(TcprulesFault::OutOfMemory) => SYSTEM_FAULT,
+            ToolFault::Rules(_) => BAD_INPUT,
+            ToolFault::Review(ReviewFault::Text(_)) => BAD_INPUT,
+            ToolFault::Check(CheckFault::BadIp | CheckFault::BadHost) => BAD_INPUT,
+            ToolFault::Check(CheckFault::BadInfo) => BAD_INPUT,
+            _ => SYSTEM_FAULT,
         }
-    }
-}
-
-fn server_code(fault: TcpserverFault) -> u8
-    ensures { result ≡ server_exit fault }
-{
-    match fault {
-        TcpserverFault::Words(fault) => fault.exit_code(),
-        TcpserverFault::Server(ServerFault::BadHosts(_)) => BAD_INPUT,
-        TcpserverFault::Server(_) => SYSTEM_FAULT,
-    }
-}
-
-fn script_code(fault: SimFault) -> u8
-    ensures { result ≡ script_exit fault }
-{
-    match fault {
-        SimFault::BadCommand(_) => BAD_INPUT,
-        SimFault::ReadFault | SimFault::WriteFault | SimFault::OutOfMemory => SYSTEM_FAULT,
-    }
-}
-
-fn rules_code(fault: TcprulesFault) -> u8
-    ensures { result ≡ rules_exit fault }
-{
-    match fault {
-        TcprulesFault::ReadFault | TcprulesFault::Device(_) => SYSTEM_FAULT,
-        TcprulesFault::OutOfMemory => SYSTEM_FAULT,
-        _ => BAD_INPUT,
-    }
-}
-
-fn review_code(fault: ReviewFault) -> u8
-    ensures { result ≡ review_exit fault }
-{
-    match fault {
-        ReviewFault::Text(_) => BAD_INPUT,
-        ReviewFault::ReadFault | ReviewFault::WriteFault | ReviewFault::OutOfMemory => SYSTEM_FAULT,
     }
 }
 
@@ -136,15 +102,6 @@ pub fn warned_code(strict: bool, warned: bool) -> u8
     ensures { result ≡ warned_exit strict warned }
 {
     if strict && warned { WARNED } else { 0 }
-}
-
-fn check_code(fault: CheckFault) -> u8
-    ensures { result ≡ check_exit fault }
-{
-    match fault {
-        CheckFault::BadIp | CheckFault::BadHost | CheckFault::BadInfo => BAD_INPUT,
-        _ => SYSTEM_FAULT,
-    }
 }
 
 /// The exit code of a program that was run, as the tool's own.
@@ -198,15 +155,5 @@ fn hint_of(fault: ToolFault) -> &'static str
     match fault {
         ToolFault::UsageOf(tool, Detail::Hint) => tool.words(),
         _ => "",
-    }
-}
-
-/// The exit code of a run of the program: that of a tool, or of its fault.
-pub fn end_code(answer: Result<u8, ToolFault>) -> u8
-    ensures { result ≡ end_code answer }
-{
-    match answer {
-        Ok(code) => code,
-        Err(fault) => fault.exit_code(),
     }
 }

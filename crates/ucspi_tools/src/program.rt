@@ -10,7 +10,7 @@ use crate::about::{tell_tools, tell_version, tell_words};
 use crate::calls::Calls;
 use crate::causes::{append_cause, append_faulty, append_start};
 use crate::choice::{ToolChoice, choose};
-use crate::fault::{ToolFault, end_code, status_code, warned_code};
+use crate::fault::{SYSTEM_FAULT, ToolFault, status_code, warned_code};
 use crate::tool::Tool;
 use fault_hints::Detail;
 use rules_tools::{ReviewFault, TcprulesFault};
@@ -50,7 +50,7 @@ pub fn run_program<G: Given, I: Read, O: Write, C: Calls>(
         Ok((path, words)) => run_words(program, &path, &words),
         Err(_) => {
             program.calls.tell(PROGRAM, ToolFault::OutOfMemory, &[]);
-            end_code(Err(ToolFault::OutOfMemory))
+            SYSTEM_FAULT
         }
     }
 }

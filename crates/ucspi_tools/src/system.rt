@@ -9,8 +9,8 @@ use byte_text::NotingStream;
 use child_jobs::Status;
 use fault_hints::{KeepingReader, Voice};
 use rules_tools::{
-    CheckFailure, ReviewFault, RulesFailure, SystemFolders, SystemVariables, TcprulesFault,
-    run_review, run_tcprules, run_tcprulescheck,
+    CheckFailure, InstallFolders, ReviewFault, RulesFailure, SystemFolders, SystemVariables,
+    TcprulesFault, run_review, run_tcprules, run_tcprulescheck,
 };
 use script_tool::{SimFault, run_script};
 use server_parts::TcpserverFault;
@@ -95,7 +95,8 @@ where
     fn install(&mut self, cdb: &str, tmp: &str, faulty: &mut Vec<u8>) -> Result<(), RulesFailure> {
         let input = Patient::new(self.rt, self.rt.reader());
         let errors = Patient::new(self.rt, self.errors);
-        install_over(self.rt, self.rt.alloc(), input, errors, (cdb, tmp), faulty)
+        let folders = SystemFolders::new(self.rt, errors);
+        install_by(self.rt.alloc(), folders, input, (cdb, tmp), faulty)
     }
 
     fn review(&mut self, faulty: &mut Vec<u8>) -> Result<bool, ReviewFault> {
@@ -124,16 +125,15 @@ where
     }
 }
 
-// `tcprules` over this system, by the rule text that a reader gives.
-fn install_over<R: Files<File = File> + Clock, I: Read + Drop, E: Write + Drop>(
-    system: &R,
+// `tcprules` over these folders, by the rule text that a reader gives.
+fn install_by<F: InstallFolders + Drop, I: Read + Drop>(
     alloc: Global,
+    folders: F,
     input: I,
-    errors: E,
     paths: (&str, &str),
     faulty: &mut Vec<u8>,
 ) -> Result<(), RulesFailure> {
-    let mut folders = SystemFolders::new(system, errors);
+    let mut folders = folders;
     let mut reader = KeepingReader::new(alloc, input);
     let mut noting = NotingStream::new(&mut reader);
     let done = run_tcprules(alloc, &mut folders, &mut noting, paths.0, paths.1);
