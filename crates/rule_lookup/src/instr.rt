@@ -136,5 +136,4 @@ pub struct Instr {
     pub settings: Settings,
 }
 
-impl Instr {
-}
+impl Instr {}

@@ -34,9 +34,20 @@ pub(crate) struct Admitted<'a, H: Host> {
     pub(crate) ghost own: { made_event made.value ≡ AdmittedEvent serial peer },
 }
 
-/// A connection whose program runs: the right to its end. One thread may give it to another. The program is the plan's,
-/// with the variables of the decision by what this very connection found, for its client and its end (`child`). It found
-/// that by a new handle of the rules, which was opened for it.
+/// A connection whose program was started, with what it runs by (`child`): the program is the plan's, with the
+/// variables of the decision by what this very connection found, for its client and its end. It found that by a new
+/// handle of the rules, which was opened for it. It goes on as an `Alive`.
+pub(crate) struct Started<'a, H: Host> {
+    alive: Alive<'a, H>,
+    peer: Snapshot<Peer>,
+    found: FoundBy<H>,
+    ghost child: { IsOwnChild (kept_opening H.File.bytes found)
+        (IsFoundFor H.Places.met (H.Rules.gives alive.server.now.context.rules.now) H.Handle.opened alive.serial)
+        H.File.honest H.File.sound peer.value alive.local alive.server.now.context.plan.now
+        (H.Job.program (job_of alive.running)) (H.Job.environment (job_of alive.running)) },
+}
+
+/// A connection whose program runs: the right to its end. One thread may give it to another.
 pub(crate) struct Alive<'a, H: Host> {
     pub(crate) server: &'a Server<'a, H>,
     pub(crate) serial: u64,
@@ -44,12 +55,6 @@ pub(crate) struct Alive<'a, H: Host> {
     pub(crate) local: Local,
     // what its program says, if that is passed on; otherwise the program holds the connection itself
     pub(crate) downward: Option<Downward<H::Holder, H::Output>>,
-    peer: Snapshot<Peer>,
-    found: FoundBy<H>,
-    ghost child: { IsOwnChild (kept_opening H.File.bytes found)
-        (IsFoundFor H.Places.met (H.Rules.gives server.now.context.rules.now) H.Handle.opened serial)
-        H.File.honest H.File.sound peer.value local server.now.context.plan.now
-        (H.Job.program (job_of running)) (H.Job.environment (job_of running)) },
 }
 
 /// What the client of a connection sends, if that is passed on; and the connection.
@@ -157,7 +162,7 @@ impl<'a, H: Host> Admitted<'a, H> {
             return Err(self.give_up(DropCause::Memory));
         };
         match self.serve() {
-            Ok((alive, streams)) => alive.pass_on(streams, chains),
+            Ok((started, streams)) => started.go_on().pass_on(streams, chains),
             Err(over) => Err(over),
         }
     }
@@ -187,13 +192,13 @@ impl<'a, H: Host> Admitted<'a, H> {
     }
 
     // It is served up to the start of its program, by `serve_one`.
-    fn serve(self) -> Result<(Alive<'a, H>, ClientStreams<H::Holder>), Over>
-        ensures own { IfOk result (λ begun. (begun.0.serial ≡ self.entry.serial)
-            × (place_of begun.0.running ≡ self.entry.place)) }
-        ensures child { IfOk result (λ begun. IsDecidedChild
+    fn serve(self) -> Result<(Started<'a, H>, ClientStreams<H::Holder>), Over>
+        ensures own { IfOk result (λ started. (started.0.alive.serial ≡ self.entry.serial)
+            × (place_of started.0.alive.running ≡ self.entry.place)) }
+        ensures child { IfOk result (λ started. IsDecidedChild
             (IsFoundFor H.Places.met (H.Rules.gives self.entry.server.now.context.rules.now) H.Handle.opened self.entry.serial)
             H.File.honest H.File.sound self.entry.peer self.entry.local self.entry.server.now.context.plan.now
-            (H.Job.program (job_of begun.0.running)) (H.Job.environment (job_of begun.0.running))) }
+            (H.Job.program (job_of started.0.alive.running)) (H.Job.environment (job_of started.0.alive.running))) }
         ensures over { IfErr result (λ over. over.serial ≡ self.entry.serial) }
         ensures reason { IfErr result (λ over. EndsWithReason
             (IsFoundFor H.Places.met (H.Rules.gives self.entry.server.now.context.rules.now) H.Handle.opened self.entry.serial)
@@ -212,18 +217,17 @@ impl<'a, H: Host> Admitted<'a, H> {
         } = self;
         match server.serve(serial, place, &peer, &local, &mut streams) {
             Ok((running, found)) => {
-                let kept = Snapshot::of(&peer);
-                drop(peer);
                 let alive = Alive {
                     server,
                     serial,
                     running,
                     local,
                     downward: None,
-                    peer: kept,
-                    found,
                 };
-                Ok((alive, streams))
+                let kept = Snapshot::of(&peer);
+                drop(peer);
+                let peer = kept;
+                Ok((Started { alive, peer, found }, streams))
             }
             Err(over) => {
                 streams.end();
@@ -232,6 +236,20 @@ impl<'a, H: Host> Admitted<'a, H> {
                 Err(over)
             }
         }
+    }
+}
+
+impl<'a, H: Host> Started<'a, H> {
+    /// It goes on, in this thread or another one.
+    pub(crate) fn go_on(self) -> Alive<'a, H>
+        ensures same { result ≡ self.entry.alive }
+    {
+        let Started {
+            alive,
+            peer: _,
+            found: _,
+        } = self;
+        alive
     }
 }
 
@@ -261,8 +279,6 @@ impl<'a, H: Host> Alive<'a, H> {
             mut running,
             local,
             downward: _,
-            peer,
-            found,
         } = self;
         let Ok((to, from)) = running.ends() else {
             let _ = server
@@ -283,8 +299,6 @@ impl<'a, H: Host> Alive<'a, H> {
             running,
             local,
             downward: Some(downward),
-            peer,
-            found,
         };
         Ok((Some(upward), alive))
     }
@@ -302,8 +316,6 @@ impl<'a, H: Host> Alive<'a, H> {
             running,
             local,
             downward,
-            peer: _,
-            found: _,
         } = self;
         let shut = match downward {
             Some(downward) => Some(server.pass_down(downward)),

@@ -1,5 +1,5 @@
 -- A connection whose program was started goes on with that program, or is over only by its end.
-use Rattle.std.proofs.Common.{rules}
+use Rattle.std.proofs.Common.{◌∙◌, ap, rules, subst, sym}
 use Rattle.child_jobs.specs.Runs.{job_of}
 use Rattle.tcp_service.specs.Agents.{IsFoundFor, asked}
 use Rattle.tcp_service.specs.Lives.{EndsWithReason, IsDecidedChild}
@@ -14,8 +14,8 @@ returns-in-Ok-serve g c =
     let such = IsDecidedChild finds g.H.File.RulesFile.honest g.H.File.RulesFile.sound it.peer it.local it.server.now.context.plan.now in
     let refuses = g.H.Starter.Starter.refuses it.server.now.starter.now it.streams.shut in
     let serve = c.in-Ok-serve.ensures in
-    let its = serve.child in
-    let first = job_of c.in-Ok-serve.alive.running in
+    let its = subst (λ alive. such (job.program (job_of alive.running)) (job.environment (job_of alive.running))) (sym c.go_on.ensures.same) serve.child in
+    let first = job_of c.go_on.result.running in
     let went = c.pass_on in
     record {
       own = search rules;
@@ -24,5 +24,5 @@ returns-in-Ok-serve g c =
       reason =
           forced_if (λ over. EndsWithReason finds g.H.File.RulesFile.honest g.H.File.RulesFile.sound it.peer it.local it.server.now.context.plan.now refuses it.serial (asked over.last.value))
           such (λ over. asked over.last.value) job.killed job.refused_wait job.ended job.program job.environment first
-          c.in-Ok-serve.alive.serial it.serial serve.own.0 its went.result went.ensures.ended;
+          c.go_on.result.serial it.serial (ap (λ alive. alive.serial) c.go_on.ensures.same ∙ serve.own.0) its went.result went.ensures.ended;
     }
