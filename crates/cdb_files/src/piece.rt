@@ -1,9 +1,8 @@
 //! The pieces of a file: the header, a piece for each record, and a piece for each table.
-ghost use Rattle.std.specs.Prelude.{◌≡◌, ◌<◌, ◌^◌, length, IfOk};
-ghost use Rattle.cdb_files.specs.Format.{record_bytes};
+ghost use Rattle.std.specs.Prelude.{◌≡◌, ◌<◌, length, IfOk};
 ghost use Rattle.cdb_files.specs.Image.{header_bytes, table_bytes};
 
-use crate::append::{append_pairs, append_record};
+use crate::append::append_pairs;
 use crate::slot::filled_slots;
 use std::alloc::{AllocError, Global};
 

@@ -1,5 +1,5 @@
 //! The names of a directory in memory.
-ghost use Rattle.std.specs.Prelude.{◌≡◌, ◌||◌, ◌∷◌, [], not, map, IfOk};
+ghost use Rattle.std.specs.Prelude.{◌≡◌, ◌||◌, not, map, IfOk};
 ghost use Rattle.std.specs.FinMap.{get, insert, remove};
 ghost use Rattle.dir_calls.specs.NameTable.{same_name, after_change, after_changes};
 ghost use Rattle.dir_calls.specs.Pairs.{others as other_pairs};

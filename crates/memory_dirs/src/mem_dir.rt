@@ -1,15 +1,12 @@
 //! Directories in memory.
-ghost use Rattle.std.specs.Prelude.{◌≡◌, ◌≢◌, ◌≤◌, ◌<◌, [], ◌∷◌, List, ℕ, map, length, true, None, IsSome, Contains, IfOk, IfErr, OnOk, OnErr};
-ghost use Rattle.dir_calls.specs.Calls.{appends, closed, without};
-ghost use Rattle.dir_calls.specs.Clearing.{SparesOthers};
-ghost use Rattle.dir_calls.specs.Directory.{number_of};
+ghost use Rattle.std.specs.Prelude.{◌≡◌, ◌≤◌, ◌<◌, [], ◌∷◌, map, length, true, None, IsSome, Contains, IfOk, IfErr, OnOk};
+ghost use Rattle.dir_calls.specs.Calls.{appends};
 ghost use Rattle.dir_calls.specs.Methods.{AppendsSome, CallElapses, CallIncludes};
 ghost use Rattle.dir_calls.specs.Moments.{CountsFault};
 ghost use Rattle.dir_calls.specs.Images.{IsImage};
 ghost use Rattle.memory_dirs.specs.Folder.{directory_of, empty_directory};
 ghost use Rattle.dir_calls.specs.Stop.{stopped};
 ghost use Rattle.memory_dirs.specs.Past.{LeftSince, past_call, left_now};
-ghost use Rattle.dir_calls.specs.Replacing.{KeepsWhatLasts};
 ghost use Rattle.std.proofs.Common.{inl};
 
 use crate::crash::stopped_folder;

@@ -1,26 +1,19 @@
 //! Lists of rules.
-ghost use Rattle.std.specs.Prelude.{◌≡◌, ◌≢◌, ◌↔◌, ◌++◌, ◌<◌, ◌≤◌, ◌+◌, ◌^◌, ℕ, ◌==◌, length, map, slice_get, IsTrue, IfOk, OnOk, OnErr, MatchOption, decimal};
-ghost use Rattle.std.specs.Char.{to_ascii_lowercase};
-ghost use Rattle.std.specs.List.{Contains};
+ghost use Rattle.std.specs.Prelude.{◌≡◌, ◌++◌, ◌<◌, ◌+◌, length, slice_get, IfOk, OnOk, OnErr};
 ghost use Rattle.byte_text.specs.Outcomes.{AppendsPart};
 ghost use Rattle.rule_lookup.specs.Codes.{AreRules, code_of};
 ghost use Rattle.rule_lines.specs.Kept.{AreKept, IsStored, Tallies, rules_in};
-ghost use Rattle.rule_lookup.specs.Lookups.{found_among, code_found};
-ghost use Rattle.rule_lines.specs.Rows.{addresses_under, stored_length};
+ghost use Rattle.rule_lines.specs.Rows.{stored_length};
 ghost use Rattle.rule_lookup.specs.Spread.{folded};
 ghost use Rattle.rule_lines.specs.Texts.{AreOfText};
 ghost use Rattle.rule_lines.specs.ReadAddresses.{addresses_read};
 
-use crate::kept::{KeptLine, LinePosition, Tally, first_kept, rule_at};
+use crate::kept::{KeptLine, LinePosition, Tally, rule_at};
 use crate::open_range::{OpenRange, append_numbered};
-use crate::spread::{Numbers, ReadAddress, number_at};
-use byte_text::whole_or_none;
-use itoa::Buffer;
+use crate::spread::{ReadAddress, number_at};
 use memchr::memchr;
-use rule_lookup::{DecodeFault, Instr, decode_instr};
 use std::alloc::{AllocError, Global};
 use std::marker::Model;
-use std::str;
 
 /// The rules of a text in order, one for each address. The list keeps the text, with the code of each instruction in its place, and
 /// reads a rule out of it when it is asked for: so it takes less memory than the text, however many rules that has.

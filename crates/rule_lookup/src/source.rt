@@ -1,10 +1,9 @@
 //! Where a decision looks its instructions up.
-ghost use Rattle.std.specs.Prelude.{◌≡◌, ℕ, List, Ok, Err, IfOk, IfErr, MatchResult, option_map, vec_items};
+ghost use Rattle.std.specs.Prelude.{◌≡◌, ℕ, List, Ok, Err, IfOk, IfErr};
 ghost use Rattle.rule_lookup.specs.Decisions.{instr_in, LookupFails};
-ghost use Rattle.rule_lookup.specs.Lookups.{Finding, Trust, Answers, Fails, WhereKnown};
+ghost use Rattle.rule_lookup.specs.Lookups.{Finding, Trust, WhereKnown};
 ghost use Rattle.rule_lookup.specs.declared.source.FindFault.TheVariants.{OutOfMemory};
 
-use crate::code::decode_instr;
 use crate::decision::DecideFault;
 use crate::instr::Instr;
 use std::alloc::{AllocError, AllocFailed, Global};

@@ -1,15 +1,13 @@
 //! Directories one of whose calls fails.
-ghost use Rattle.std.specs.Prelude.{◌≡◌, ◌≢◌, ◌≤◌, ◌<◌, ◌-◌, [], ◌∷◌, List, ℕ, IsTrue, None, IsSome, Contains, length, true, false, IfOk, IfErr, OnOk};
+ghost use Rattle.std.specs.Prelude.{◌≡◌, ◌≢◌, ◌≤◌, ◌<◌, ◌-◌, [], ◌∷◌, IsTrue, None, IsSome, Contains, length, true, false, IfOk, IfErr, OnOk};
 ghost use Rattle.std.specs.Option.{option_map};
-ghost use Rattle.dir_calls.specs.Clearing.{SparesOthers};
 ghost use Rattle.dir_calls.specs.Directory.{number_of, scratch_of, content};
 ghost use Rattle.dir_calls.specs.Calls.{makes, appends, patches, syncs, renames, settles};
 ghost use Rattle.dir_calls.specs.Methods.{AppendsSome, DoesCall, IsInside};
 ghost use Rattle.dir_calls.specs.Moments.{CountsFault};
 ghost use Rattle.test_programs.specs.Fuse.{failures_with};
-ghost use Rattle.dir_calls.specs.Replacing.{KeepsWhatLasts};
 
-use dir_calls::{ClearableDir, Dir, DirFault, Name};
+use dir_calls::{Dir, DirFault, Name};
 use std::alloc::Global;
 
 /// A directory one of whose calls fails. That call answers `Device`, and does not reach the directory inside; all
