@@ -2,17 +2,17 @@
 ghost use Rattle.std.specs.Prelude.{⊤, false};
 ghost use Rattle.dir_calls.specs.NoDirectory.{no_directory, not_honest};
 
-use dir_calls::{Dir, DirFault, Name};
-use server_parts::RulesOnDisk;
+use dir_calls::{Dir, DirFault, Name, RulesFile};
 use std::alloc::Global;
+use std::marker::PhantomData;
 
-/// No folder: a server installs nothing, and its connections open the rules by handles of their own. No call of it
-/// succeeds but `settle`, and nothing is known of it.
-#[derive(Clone, Copy)]
-pub(crate) struct NoFolder;
+/// No folder, and none of these files: a server installs nothing, and its connections open the rules by handles of their
+/// own. No call of it succeeds but `settle`, and nothing is known of it.
+#[derive(Drop)]
+pub(crate) struct NoFolder<F>(pub PhantomData<F>);
 
-impl Dir for NoFolder {
-    type File = RulesOnDisk;
+impl<F: RulesFile + Drop> Dir for NoFolder<F> {
+    type File = F;
 
     ghost state = { λ _. no_directory };
 
@@ -54,7 +54,7 @@ impl Dir for NoFolder {
         Ok(())
     }
 
-    fn open(&mut self, _alloc: Global, _name: &Name) -> Result<Option<RulesOnDisk>, DirFault> {
+    fn open(&mut self, _alloc: Global, _name: &Name) -> Result<Option<F>, DirFault> {
         Err(DirFault::OutOfMemory)
     }
 

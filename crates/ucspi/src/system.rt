@@ -118,7 +118,7 @@ impl<'a, P: System, L: Assumptions + Send + Sync, N: Callers + Send + Sync> Grou
 
     type File = RulesOnDisk;
 
-    type Folder = NoFolder;
+    type Folder = NoFolder<RulesOnDisk>;
 
     ghost is_servers = { true };
 }

@@ -289,7 +289,7 @@ fn yard_of<L: Assumptions>(
     rules: Option<(Name, WhenMissing)>,
     words: &ServerWords<'_>,
     places: Blank,
-) -> Result<Yard<L, NoFolder>, ServerFault>
+) -> Result<Yard<L, NoFolder<RulesOnDisk>>, ServerFault>
     requires places { (places.name ≡ L.name) × (places.parts ≡ L.parts)
         × (places.parts ≡ words.now.limits.connections) }
     requires met { L.met ≡ false }
@@ -301,10 +301,10 @@ fn yard_of<L: Assumptions>(
     ensures refused { IfErr result (λ fault. fault ≡ OutOfMemory) }
 {
     let limits = words.limits();
-    let made = Yard::<L, NoFolder>::with_address_limit(
+    let made = Yard::<L, NoFolder<RulesOnDisk>>::with_address_limit(
         alloc,
         places,
-        NoFolder,
+        NoFolder(PhantomData),
         rules,
         limits.connections,
         limits.per_address,
