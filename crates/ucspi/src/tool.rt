@@ -26,7 +26,8 @@ use server_parts::limits::supply_for;
 use server_parts::opening::{find_rules, names_of, plan_of, print_port, stand_in};
 use server_parts::signals::forgets_programs;
 use server_parts::{
-    ProgramStarter, RulesPath, ServerFailure, ServerFault, SocketAcceptor, TcpserverFault,
+    ProgramStarter, RulesOnDisk, RulesPath, ServerFailure, ServerFault, SocketAcceptor,
+    TcpserverFault,
 };
 use server_words::{Level, ServerWords, read_server_words};
 use server_yard::{Assumptions, Yard};
