@@ -68,7 +68,7 @@ run:
 	$(PROGRAM) rulesim <crates/ucspi/stdin
 
 check:
-	RT_JOBS=$(RT_JOBS) rt ci
+	RT_JOBS=$(RT_JOBS) scripts/costs --gate
 	touch $(PROGRAM) $(PROBE)
 	tests/run
 

@@ -58,8 +58,15 @@ pub trait Admission {
         ensures nobody { let_in self.new ≡ let_in self.old };
 }
 
-/// Serves the connections that were let in. A connection is a value that each call takes, and gives on to the next.
-pub trait Serving<T> {
+/// Serves the connections that its entrance lets in. A connection is a value that each call takes, and gives on to the
+/// next.
+pub trait Serving {
+    /// What lets them in.
+    type Entrance: Admission<Work = Self::Work> + Send;
+
+    /// A connection that was let in.
+    type Work;
+
     /// The stream from a client, which `pass_up` passes on.
     type Upward: Send + Drop;
 
@@ -80,7 +87,7 @@ pub trait Serving<T> {
     ///
     /// # Errors
     /// The connection is over.
-    fn begin(&self, work: T) -> Result<(Option<Self::Upward>, Self::Alive), Self::Over>;
+    fn begin(&self, work: Self::Work) -> Result<(Option<Self::Upward>, Self::Alive), Self::Over>;
 
     /// Passes on what the client sends, to its end.
     fn pass_up(&self, upward: Self::Upward);

@@ -1,7 +1,7 @@
 //! TCP connections, without rules and logs: where they come from, the names of their two ends, the workers that accept
 //! and serve them, the start of a child, and the wait for its end.
 //!
-//! The server uses `serve_through`: if it ends by its count, it let in exactly that many. It alone starts threads. A
+//! The server uses `Workers::serve_through`: if it ends by its count, it let in exactly that many. It alone starts threads. A
 //! connection is a value that each call of `Serving` passes on, or answers as over. Dropping a `GoingOn` ends the
 //! connection too. A worker has a `Permit` before it accepts a connection. `wait_in_rounds` gives a place back only
 //! after a wait that succeeded. Only tests show that one more worker is made if none waits for a connection, that what a
@@ -12,10 +12,8 @@ pub mod accepting;
 pub mod admission;
 mod arrivals;
 pub mod door;
-mod going_on;
 mod handover;
 mod means;
-mod memory_look;
 pub mod names;
 pub mod rounds;
 pub mod starting;
@@ -30,4 +28,4 @@ pub use names::HostNames;
 pub use rounds::wait_in_rounds;
 pub use starting::{ConnectionLauncher, Starter};
 pub use supply::{Memory, Reserve, Supply};
-pub use workers::serve_through;
+pub use workers::Workers;

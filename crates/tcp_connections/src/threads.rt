@@ -3,7 +3,8 @@ ghost use Rattle.std.specs.Thread.{IsSend, IsSync};
 
 use crate::admission::Serving;
 use crate::handover::Handover;
-use crate::memory_look::MemoryLook;
+use crate::means::{Means, Permit};
+use crate::supply::MemoryLook;
 use std::alloc::Global;
 use std::sync::{Arc, Wait};
 use std::thread;
@@ -23,8 +24,8 @@ pub(crate) type Second<U> = Arc<Handover<U>, Global>;
 
 /// Starts a second thread, which passes on what each client sends, one after another, until no more come. Whether the
 /// system had one.
-pub(crate) fn start_passing_up<'a: 's, 's, E, R, V, T>(
-    scope: &Scope<'s, E>,
+pub(crate) fn start_passing_up<'a: 's, 's, 'e, R, V>(
+    scope: &Scope<'s, &'e ()>,
     rt: &'a R,
     server: &'a V,
     memory: &'s MemoryLook,
@@ -32,21 +33,20 @@ pub(crate) fn start_passing_up<'a: 's, 's, E, R, V, T>(
 ) -> bool
 where
     R: Wait + Sync + 's,
-    V: Serving<T> + Sync + 's,
-    T: 's,
+    V: Serving + Sync + 's,
 {
     connection_thread()
         .spawn_scoped(
             scope,
             move ||
-                requires { IsSync R.row × IsSync V.row × IsSend V.Upward.row }
+                requires { IsSync R.row × IsSync V.row × IsSend V.Entrance.row × IsSend V.Upward.row }
             { pass_up_in_turn(rt, server, memory, &sent) },
         )
         .is_ok()
 }
 
 // Passes on what each client sends, one after another, until no more come.
-fn pass_up_in_turn<R: Wait, V: Serving<T>, T>(
+fn pass_up_in_turn<R: Wait, V: Serving>(
     rt: &R,
     server: &V,
     memory: &MemoryLook,
@@ -62,15 +62,60 @@ fn pass_up_in_turn<R: Wait, V: Serving<T>, T>(
     }
 }
 
-/// Starts a thread that only waits until `end` is closed. Whether the system had one.
-pub(crate) fn start_waiting<'a: 's, 's, E, R>(
-    scope: &Scope<'s, E>,
-    rt: &'a R,
-    end: &'a Handover<()>,
-) -> bool
+/// A connection whose program runs, with the second thread that passes on what its client sends, if there is one. To
+/// drop it is to go on with it to its end, and to let the second thread go. So none is lost on the way from one thread
+/// to another.
+pub(crate) struct GoingOn<'a, R: Wait, V: Serving> {
+    pub rt: &'a R,
+    pub server: &'a V,
+    pub means: &'a Means,
+    pub alive: V::Alive,
+    pub permit: Permit,
+    pub second: Option<Second<V::Upward>>,
+}
+
+impl<R: Wait, V: Serving> Drop for GoingOn<'_, R, V> {
+    fn drop(self) {
+        let GoingOn {
+            rt,
+            server,
+            means,
+            alive,
+            permit,
+            second,
+        } = self;
+        let over = server.finish(alive);
+        if let Some(second) = second {
+            second.wait(rt);
+            second.close(rt);
+        }
+        means.ended(rt, permit, server.is_retired(&over));
+    }
+}
+
+/// Starts a thread that goes on with a connection to its end. Without a thread this one does.
+pub(crate) fn start_going_on<'a: 's, 's, 'e, R, V>(
+    scope: &Scope<'s, &'e ()>,
+    going_on: GoingOn<'a, R, V>,
+)
 where
     R: Wait + Sync + 's,
+    V: Serving + Sync + 's,
 {
+    let _ = connection_thread().spawn_scoped(
+        scope,
+        move ||
+            requires { IsSync R.row × IsSync V.row × IsSend V.Entrance.row × IsSend V.Upward.row × IsSend V.Alive.row }
+        { drop(going_on) },
+    );
+}
+
+/// Starts a thread that only waits until `end` is closed. Whether the system had one.
+pub(crate) fn start_waiting<'a: 's, 's, 'e, R: Wait + Sync + 's>(
+    scope: &Scope<'s, &'e ()>,
+    rt: &'a R,
+    end: &'a Handover<()>,
+) -> bool {
     connection_thread()
         .spawn_scoped(
             scope,

@@ -8,12 +8,13 @@ use crate::accepting::{Accepted, Acceptor};
 use crate::admission::{Admission, ServeEnd, Serving};
 use crate::arrivals::Arrivals;
 use crate::door::{Door, Errors, Pause};
-use crate::going_on::{GoingOn, start_going_on};
 use crate::handover::Handover;
 use crate::means::{Means, Permit, Want};
-use crate::memory_look::MemoryLook;
-use crate::supply::{Reserve, Supply};
-use crate::threads::{Second, connection_thread, has_processes, start_passing_up, start_waiting};
+use crate::supply::{MemoryLook, Reserve, Supply};
+use crate::threads::{
+    GoingOn, Second, connection_thread, has_processes, start_going_on, start_passing_up,
+    start_waiting,
+};
 use std::alloc::Global;
 use std::sync::{Arc, Wait};
 use std::thread;
@@ -27,65 +28,13 @@ const TRIES: u32 = 8;
 /// too few, the last programs wait for those before them.
 const PROCESSES: u64 = 4;
 
-/// Lets connections of `acceptor` in until `count` were let in or no more can be. Then it drops the acceptor, waits
-/// until all that were let in are over, and gives `admission` back with the errors of accepting that came last. At most
-/// `most` connections are alive at once. Each worker accepts one, lets it in, and serves it until its program runs. It
-/// goes on with few itself, and with one of many a thread does that ends with it. A second thread passes on what the
-/// client sends, if `server` does that. This thread makes one more worker whenever none waits for a connection.
-///
-/// The count begins at 0, since nobody was let in by `admission` before. By faults of accepting it ends only if the
-/// last hundred answers of the acceptor were errors, or if `supply` doesn't suffice for one connection. For want of
-/// places it ends only if all were seen retired, and for want of numbers only if the last one was seen given.
-pub fn serve_through<R, V, A, Q>(
-    rt: &R,
-    alloc: Global,
-    acceptor: A,
-    admission: Q,
-    server: &V,
-    most: u64,
-    count: Option<u32>,
-    supply: Supply,
-    reserve: &Reserve,
-) -> (ServeEnd, Q, Errors)
-where
-    R: Threads + Wait + Clock + Sync,
-    V: Serving<Q::Work> + Sync,
-    A: Acceptor + Send + Sync + Drop,
-    Q: Admission<Came = Option<Accepted<A::Holder>>> + Send + Drop,
-    requires nobody { Q.let_in admission ≡ 0 }
-    ensures served { IsServed result.0 count 0 (Q.let_in result.1) }
-    ensures faults { result.0 ≡ AcceptFaults → FailedToAccept (suffices supply) result.2.count }
-    ensures places { result.0 ≡ NoPlaces → IsTrue (Q.all_retired result.1) }
-    ensures spent { result.0 ≡ Spent → IsTrue (Q.is_spent result.1) }
-{
-    if !supply.suffices() {
-        drop(acceptor);
-        return (ServeEnd::AcceptFaults, admission, Errors::none());
-    }
-    let means = Means::new(supply, most, count);
-    let workers = Workers {
-        rt,
-        alloc,
-        server,
-        arrivals: Arrivals::new(acceptor, Door::new(admission, count)),
-        memory: MemoryLook::new(alloc, supply),
-        has_reserve: supply.has_reserve(),
-        came_up: Handover::new(),
-        means: &means,
-        reserve,
-    };
-    workers.run();
-    let Workers { arrivals, .. } = workers;
-    arrivals.into_end(count)
-}
-
 /// What the workers share.
 #[derive(Drop)]
-struct Workers<'a, R, V, A, Q: Admission> {
+pub struct Workers<'a, R, V: Serving, A> {
     rt: &'a R,
     alloc: Global,
     server: &'a V,
-    arrivals: Arrivals<A, Q>,
+    arrivals: Arrivals<A, V::Entrance>,
     memory: MemoryLook,
     // whether there is memory for a process in reserve
     has_reserve: bool,
@@ -100,13 +49,60 @@ fn has_programs<R: Threads + Wait + Sync>(rt: &R, reserve: &Reserve, beginning: 
     !reserve.is_gone(rt) || has_processes(rt, beginning.clamp(1, PROCESSES))
 }
 
-impl<'a, R, V, A, Q> Workers<'a, R, V, A, Q>
+impl<'a, R, V, A> Workers<'a, R, V, A>
 where
     R: Threads + Wait + Clock + Sync,
-    V: Serving<Q::Work> + Sync,
+    V: Serving + Sync,
+    V::Entrance: Admission<Came = Option<Accepted<A::Holder>>> + Send + Drop,
     A: Acceptor + Send + Sync + Drop,
-    Q: Admission<Came = Option<Accepted<A::Holder>>> + Send + Drop,
 {
+    /// Lets connections of `acceptor` in until `count` were let in or no more can be. Then it drops the acceptor, waits
+    /// until all that were let in are over, and gives `entrance` back with the errors of accepting that came last. At most
+    /// `most` connections are alive at once. Each worker accepts one, lets it in, and serves it until its program runs. It
+    /// goes on with few itself, and with one of many a thread does that ends with it. A second thread passes on what the
+    /// client sends, if `server` does that. This thread makes one more worker whenever none waits for a connection.
+    ///
+    /// The count begins at 0, since nobody was let in by `entrance` before. By faults of accepting it ends only if the
+    /// last hundred answers of the acceptor were errors, or if `supply` doesn't suffice for one connection. For want of
+    /// places it ends only if all were seen retired, and for want of numbers only if the last one was seen given.
+    pub fn serve_through(
+        rt: &'a R,
+        alloc: Global,
+        acceptor: A,
+        entrance: V::Entrance,
+        server: &'a V,
+        most: u64,
+        count: Option<u32>,
+        supply: Supply,
+        reserve: &'a Reserve,
+    ) -> (ServeEnd, V::Entrance, Errors)
+        requires nobody { V.Entrance.let_in entrance ≡ 0 }
+        ensures served { IsServed result.0 count 0 (V.Entrance.let_in result.1) }
+        ensures faults { result.0 ≡ AcceptFaults → FailedToAccept (suffices supply) result.2.count }
+        ensures places { result.0 ≡ NoPlaces → IsTrue (V.Entrance.all_retired result.1) }
+        ensures spent { result.0 ≡ Spent → IsTrue (V.Entrance.is_spent result.1) }
+    {
+        if !supply.suffices() {
+            drop(acceptor);
+            return (ServeEnd::AcceptFaults, entrance, Errors::none());
+        }
+        let means = Means::new(supply, most, count);
+        let workers = Workers {
+            rt,
+            alloc,
+            server,
+            arrivals: Arrivals::new(acceptor, Door::new(entrance, count)),
+            memory: MemoryLook::new(alloc, supply),
+            has_reserve: supply.has_reserve(),
+            came_up: Handover::new(),
+            means: &means,
+            reserve,
+        };
+        workers.run();
+        let Workers { arrivals, .. } = workers;
+        arrivals.into_end(count)
+    }
+
     // Lets connections in until the server comes to an end, and waits until all that were let in are over.
     fn run(&self) {
         let workers = self;
@@ -114,7 +110,7 @@ where
             thread::scope_env(),
             workers.rt,
             move |scope|
-                requires { IsSync R.row × IsSync V.row × IsSend Q.row × IsSend V.Upward.row × IsSend V.Alive.row
+                requires { IsSync R.row × IsSync V.row × IsSend V.Entrance.row × IsSend V.Upward.row × IsSend V.Alive.row
                     × IsSend A.row × IsSync A.row }
             {
                 if !workers.has_reserve || !start_waiting(scope, workers.rt, &workers.reserve.end) {
@@ -183,7 +179,7 @@ where
             .spawn_scoped(
                 scope,
                 move ||
-                    requires { IsSync R.row × IsSync V.row × IsSend Q.row × IsSend V.Upward.row × IsSend V.Alive.row
+                    requires { IsSync R.row × IsSync V.row × IsSend V.Entrance.row × IsSend V.Upward.row × IsSend V.Alive.row
                         × IsSend A.row × IsSync A.row }
                 { workers.come_to_work(scope, number, beginning) },
             )
@@ -271,7 +267,7 @@ where
         &'s self,
         scope: &'s Scope<'s, &'e ()>,
         permit: Permit,
-        came: Q::Came,
+        came: Option<Accepted<A::Holder>>,
         second: &mut Option<Second<V::Upward>>,
     ) {
         let Some(work) = self.arrivals.admit(self.rt, self.means, &permit, came) else {

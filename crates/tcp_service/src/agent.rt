@@ -2,21 +2,20 @@
 //! the turn is over.
 ghost use Rattle.std.specs.Prelude.{◌≡◌, None};
 
-use crate::host::AgentGround;
-use crate::opening::{Rules, RulesHandle};
+use crate::host::{AgentGround, Rules, RulesHandle};
 use crate::reasons::{Reason, cause_of_absence, cause_of_damage};
 use crate::server::AgentContext;
-use crate::telling::Telling;
 use byte_text::words_of_error;
 use child_jobs::{DropCause, Exit, Job, Local, NotStarted, Place, Running};
 use one_connection::{Agent, cause_of_open, decide_by_pass};
 use rule_lookup::{DecideFault, Decision, Peer};
-use server_log::{Cause, Told};
+use server_log::{Cause, Log, Told};
 use server_yard::{Finding, Leaving, Pass};
 use shared_site::turns::{Decided, Left, Opened, Retired, Started};
-use shared_site::{Ground, Made, OutOfTurn, Turn};
+use shared_site::{Ground, Made, OutOfTurn, Turn, YardOf};
 use std::alloc::Global;
 use std::snapshot::Snapshot;
+use std::sync::Mutex;
 
 /// What a connection found when it opened the rules, if it came to that.
 pub(crate) type FoundBy<G> = Option<Snapshot<Pass<<G as Ground>::Places, <G as Ground>::File>>>;
@@ -342,5 +341,42 @@ impl<G: AgentGround> Agent<G::Places> for LoggedAgent<'_, G> {
         };
         self.last = Some(self.tell(turn, told));
         drop(reason);
+    }
+}
+
+// A turn of a connection that was let in, and what the log is told of its event before the turn is over. So its lines
+// stand in the order of events.
+struct Telling<'a, G: AgentGround, T> {
+    turn: T,
+    told: Told<'a>,
+    rt: &'a G::Runtime,
+    log: &'a Mutex<Log<G::Lines>>,
+}
+
+impl<G, T> Turn<G> for Telling<'_, G, T>
+where
+    G: AgentGround,
+    T: Turn<G, Answer = Result<Made, OutOfTurn>>,
+{
+    type Answer = Result<Made, OutOfTurn>;
+
+    ghost may = { λ telling. T.may telling.turn };
+
+    ghost answers = { λ telling. T.answers telling.turn };
+
+    ghost tells = { λ telling. T.tells telling.turn };
+
+    fn run(self, yard: &mut YardOf<G>, caller: u64) -> Result<Made, OutOfTurn> {
+        let Telling {
+            turn,
+            told,
+            rt,
+            log,
+        } = self;
+        let answer = turn.run(yard, caller);
+        if let Ok(made) = &answer {
+            let _ = log.lock(rt).tell(made.at(), yard.live(), told);
+        }
+        answer
     }
 }

@@ -1,8 +1,9 @@
 //! How a connection that was accepted is let in: named and counted.
-ghost use Rattle.std.specs.Prelude.{◌≡◌, ◌-◌, ◌^◌, IsTrue, is_some};
+ghost use Rattle.std.specs.Prelude.{◌≡◌, ◌-◌, ◌^◌, ⊤, IsTrue, is_some};
 ghost use Rattle.server_yard.specs.declared.register.AdmitFault.TheVariants.{Spent};
 ghost use Rattle.shared_site.specs.Callers.{caller_share};
-ghost use Rattle.shared_site.specs.Receipts.{receipt_of, refusal_fault};
+ghost use Rattle.shared_site.specs.Receipts.{AdmitsOrNot, receipt_of, refusal_fault};
+ghost use Rattle.shared_site.specs.Turns.{told_if_admitted};
 ghost use Rattle.tcp_connections.specs.Admissions.{LetsIn, OnSpent};
 ghost use Rattle.tcp_connections.specs.declared.admission.AdmitOutcome.TheVariants as outcome;
 ghost use Rattle.tcp_service.specs.declared.entrance.Refused.TheVariants.{OutOfMemory};
@@ -12,14 +13,15 @@ use crate::host::{AgentGround, Host};
 use crate::life::Admitted;
 use crate::pumping::ClientStreams;
 use crate::server::{AgentContext, Server};
-use crate::telling::{AdmittedBy, TellingAdmission};
-use child_jobs::{DropCause, Local};
+use child_jobs::{DropCause, Local, Place};
 use rule_lookup::Peer;
+use server_log::{Log, Told};
 use server_yard::{AdmitFault, Assumptions, Leaving};
-use shared_site::turns::Left;
-use shared_site::{AllRetired, CallerOf, Made, Refusal};
+use shared_site::turns::{Admit, Left};
+use shared_site::{AllRetired, CallerOf, Ground, Made, Refusal, Turn, YardOf};
 use std::alloc::{AllocError, Global};
 use std::snapshot::Snapshot;
+use std::sync::Mutex;
 use tcp_connections::{Accepted, Admission, AdmitOutcome, HostNames};
 
 /// Why a connection was refused.
@@ -221,4 +223,56 @@ fn admit<G: AgentGround>(
             _ => AdmitOutcome::Refused(refusal),
         },
     }
+}
+
+// Of a connection that was let in: its serial, its place, and the event that its admission made.
+type AdmittedBy<G> = (u64, Place<<G as Ground>::Places>, Made);
+
+// Lets a connection in, or tells why it is refused, before the turn is over.
+struct TellingAdmission<'a, G: AgentGround> {
+    peer: &'a Peer,
+    rt: &'a G::Runtime,
+    log: &'a Mutex<Log<G::Lines>>,
+}
+
+impl<G: AgentGround> Turn<G> for TellingAdmission<'_, G> {
+    type Answer = Result<AdmittedBy<G>, Refusal>;
+
+    ghost may = { λ _. ⊤ };
+
+    ghost answers = { λ turn. AdmitsOrNot turn.peer.now };
+
+    ghost tells = { λ turn. told_if_admitted turn.peer.now };
+
+    fn run(self, yard: &mut YardOf<G>, caller: u64) -> Result<AdmittedBy<G>, Refusal> {
+        let TellingAdmission { peer, rt, log } = self;
+        let admitted = Turn::<G>::run(Admit { peer }, yard, caller);
+        tell_admission::<G>(rt, log, peer, yard.live(), &admitted);
+        admitted
+    }
+}
+
+// Tells of a connection that was let in, or why it was refused, if that has a line. So many are alive.
+fn tell_admission<G: AgentGround>(
+    rt: &G::Runtime,
+    log: &Mutex<Log<G::Lines>>,
+    peer: &Peer,
+    live: u64,
+    admitted: &Result<AdmittedBy<G>, Refusal>,
+) {
+    let ip = peer.ip();
+    let _ = match admitted {
+        Ok((serial, _, made)) => {
+            let told = Told::Admitted {
+                serial: *serial,
+                ip,
+            };
+            log.lock(rt).tell(made.at(), live, told)
+        }
+        Err(refusal) => match refusal.fault() {
+            AdmitFault::FullForAddress => log.lock(rt).address_full(ip),
+            AdmitFault::OutOfMemory => log.lock(rt).out_of_memory(),
+            AdmitFault::Full | AdmitFault::Spent => Ok(()),
+        },
+    };
 }

@@ -1,7 +1,14 @@
-//! What a server stands on.
-use crate::opening::{Rules, RulesHandle};
+//! What a server stands on, and how its connections open the rules, each by a handle of its own.
+ghost use Rattle.std.specs.Prelude.{ℕ, List, Option, IfOk};
+ghost use Rattle.std.specs.Option.{option_map};
+ghost use Rattle.server_yard.specs.Passes.{finding_file};
+
 use child_jobs::Job;
+use dir_calls::{DirFault, RulesFile};
+use rule_lookup::Peer;
+use server_yard::{Assumptions, Finding};
 use shared_site::Ground;
+use std::alloc::{AllocError, Global};
 use std::io::{Read, Write};
 use std::sync::Wait;
 use tcp_connections::{Follow, Shut, Starter};
@@ -45,4 +52,46 @@ pub trait Host: AgentGround {
 
     /// The end of the pipe that it writes.
     type Output: Read + Drop;
+}
+
+/// Where the rules stand that each connection opens for itself.
+pub trait Rules<L: Assumptions, F: RulesFile + Drop> {
+    /// What one connection opens them by.
+    type Handle: RulesHandle<L, F> + Drop;
+
+    /// Whether a handle is a new one of these rules.
+    ghost gives: { Self → Self.Handle → Type 0 };
+
+    /// A handle for one connection. The system is not called.
+    ///
+    /// # Errors
+    /// There was no memory.
+    fn handle(&self, alloc: Global) -> Result<Self::Handle, AllocError>
+        ensures new { IfOk result (gives self.now) };
+
+    /// The system's number of the error (`errno`) by which the last call of a handle failed, or a read of what was
+    /// opened, if it has one.
+    fn error(&self, handle: &Self::Handle) -> Option<i32>;
+
+    /// The path of the rules file as it was given; empty where there is none.
+    fn path(&self) -> &str;
+
+    /// The address of the rule that is met first for this client, if that rule is damaged. It is found by one more look
+    /// at what stands there now; `None` if it is not found again.
+    fn damaged_rule(&self, alloc: Global, peer: &Peer) -> Option<String>;
+}
+
+/// What one connection opens the rules by. Nobody else waits meanwhile.
+pub trait RulesHandle<L: Assumptions, F: RulesFile + Drop> {
+    /// Between these two states it was opened for the connection with this serial number, and this stood under the
+    /// rules name: a file of these bytes, or nothing.
+    ghost opened: { Self → (serial : ℕ) → Option (List ℕ) → Self → Type 0 };
+
+    /// What stands under the rules name, for the connection with this serial number.
+    ///
+    /// # Errors
+    /// `OutOfMemory`; any other is a call of the system that failed.
+    fn open(&mut self, alloc: Global, serial: u64) -> Result<Finding<L, F>, DirFault>
+        ensures found { IfOk result (λ finding.
+            opened self.old serial (option_map F.bytes (finding_file finding)) self.new) };
 }

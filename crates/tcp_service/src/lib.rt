@@ -12,25 +12,19 @@
 #![tactic(auto)]
 
 mod agent;
-mod connection;
 mod entrance;
 pub mod host;
 mod life;
-pub mod opening;
-mod over;
 mod pumping;
 mod reasons;
-mod server;
-pub mod service;
+pub mod server;
 pub mod serving;
-mod telling;
 mod wrappers;
 
-pub use host::{AgentGround, Host};
-pub use opening::{Rules, RulesHandle};
+pub use host::{AgentGround, Host, Rules, RulesHandle};
+pub use server::Service;
 pub use server_log::Log;
 pub use server_words::{ConnectionLimits, Level, Mode};
-pub use service::Service;
 pub use serving::{Closed, serve};
 pub use tcp_connections::{
     AcceptError, Accepted, Acceptor, Errors, Follow, HostNames, Patience, Reserve, ServeEnd, Shut,

@@ -6,18 +6,17 @@ ghost use Rattle.one_connection.specs.Openings.{kept_opening};
 ghost use Rattle.server_events.specs.declared.event.Event.TheVariants.{Admitted as AdmittedEvent, Dropped as DroppedEvent};
 ghost use Rattle.shared_site.specs.Receipts.{made_event};
 ghost use Rattle.tcp_service.specs.Agents.{IsFoundFor, asked};
-ghost use Rattle.tcp_service.specs.Lives.{EndsWithReason, IsDecidedChild, IsEndOfChild, IsEndedByForce, IsOwnChild, OfSameChild};
+ghost use Rattle.tcp_service.specs.Lives.{EndsWithReason, IsDecidedChild, IsEndOfChild, IsEndOf, IsEndedByForce, IsOwnChild, OfSameChild, retires};
 
-use crate::agent::FoundBy;
-use crate::host::Host;
-use crate::over::Over;
+use crate::agent::{FoundBy, LoggedAgent};
+use crate::host::{AgentGround, Host};
 use crate::pumping::{ClientStreams, Downward, Upward};
 use crate::server::Server;
 use crate::wrappers::{Chains, chains_of};
 use child_jobs::{DropCause, Local, Place, Running};
 use one_connection::{Agent, Served, serve_one};
 use rule_lookup::Peer;
-use shared_site::{Ground, Made};
+use shared_site::{Ground, Made, OutOfTurn};
 use std::snapshot::Snapshot;
 use tcp_connections::{ConnectionLauncher, Shut, wait_in_rounds};
 
@@ -322,5 +321,36 @@ impl<'a, H: Host> Alive<'a, H> {
             None => None,
         };
         server.see_out(serial, running, &local, false, shut)
+    }
+}
+
+/// That a connection is over: the last that was told of it is its end. Only `of` makes one.
+#[derive(Drop)]
+pub(crate) struct Over {
+    serial: u64,
+    /// Whether its place is never free again.
+    pub(crate) is_retired: bool,
+    // what its site answered last
+    last: Snapshot<Option<Result<Made, OutOfTurn>>>,
+    ghost retired: { is_retired ≡ retires (asked last.value) },
+}
+
+impl Over {
+    /// That the connection with this serial number is, by its agent; and whether it was retired.
+    pub(crate) fn of<G: AgentGround>(
+        agent: &LoggedAgent<'_, G>,
+        serial: u64,
+        is_retired: bool,
+    ) -> Over
+        requires told { IsEndOf (asked agent.now.last) serial }
+        requires retired { is_retired ≡ retires (asked agent.now.last) }
+        ensures own { result.serial ≡ serial }
+        ensures last { result.last.value ≡ agent.now.last }
+    {
+        Over {
+            serial,
+            is_retired,
+            last: Snapshot::of(&agent.last),
+        }
     }
 }

@@ -1,11 +1,12 @@
 //! What all connections of a server share.
 use crate::host::{AgentGround, Host};
-use crate::service::Service;
 use child_jobs::Plan;
 use server_log::Log;
+use server_words::{ConnectionLimits, LineWrapperName, Mode};
 use shared_site::{CallerOf, Site};
 use std::alloc::Global;
 use std::sync::Mutex;
+use tcp_connections::{HostNames, Patience, Reserve, Supply};
 
 /// What the agents of all connections share: the site with the caller that tells it their events, the plan, the rules
 /// and the log.
@@ -27,4 +28,28 @@ pub(crate) struct Server<'a, H: Host> {
     pub context: AgentContext<'a, H>,
     pub starter: &'a H::Starter,
     pub service: &'a Service<'a>,
+}
+
+/// What a server does for all of its connections.
+#[derive(Drop)]
+pub struct Service<'a> {
+    /// How many connections there may be at once, and how many are let in before the server ends. Without such a number
+    /// it does not end by itself.
+    pub limits: ConnectionLimits,
+    /// How the ends of a connection get their names.
+    pub names: HostNames,
+    /// Whether programs hold their connections themselves (`-s`), or the server passes the bytes on (`-S`).
+    pub mode: Mode,
+    /// How long a client whose connection is pumped may take nothing of what its program left for it.
+    pub patience: Patience,
+    /// Where bytes are passed on: whether what goes both ways is recorded (`-w recordio`).
+    pub recording: bool,
+    /// The line wrappers for what a client sends, the first one first (`-w`).
+    pub input: &'a [LineWrapperName],
+    /// The same for what it is sent.
+    pub output: &'a [LineWrapperName],
+    /// What the system gives it for its connections.
+    pub supply: Supply,
+    /// The process that is kept in reserve for their programs.
+    pub reserve: Reserve,
 }

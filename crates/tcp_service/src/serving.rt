@@ -7,17 +7,19 @@ ghost use Rattle.tcp_connections.specs.declared.admission.ServeEnd.TheVariants.{
 
 use crate::entrance::{Entrance, Seen};
 use crate::host::Host;
-use crate::server::{AgentContext, Server};
-use crate::service::Service;
+use crate::life::{Admitted, Alive, Beginning, Over};
+use crate::pumping::Upward;
+use crate::server::{AgentContext, Server, Service};
 use child_jobs::Plan;
 use server_log::Log;
+use server_words::Mode;
 use shared_site::{Caller, CallerOf, Callers, Site, YardOf};
 use std::alloc::Global;
 use std::snapshot::Snapshot;
 use std::sync::Mutex;
 use std::thread::Threads;
 use std::time::Clock;
-use tcp_connections::{Acceptor, Errors, ServeEnd, serve_through};
+use tcp_connections::{Acceptor, Errors, ServeEnd, Serving, Workers};
 
 /// A server that has come to its end: nobody is let in any more and its threads have ended, both callers of its site
 /// are back and the site is closed. Each connection that is alive still is a retired one, unless one was lost. For want
@@ -113,7 +115,7 @@ where
         admitter,
         seen: Seen::new(),
     };
-    let (end, entrance, errors) = serve_through(
+    let (end, entrance, errors) = Workers::<H::Runtime, Server<'_, H>, A>::serve_through(
         rt,
         alloc,
         acceptor,
@@ -182,5 +184,55 @@ fn close<H: Host>(
         seen,
         admitter: admitter_then,
         teller: teller_then,
+    }
+}
+
+impl<'a, H> Serving for Server<'a, H>
+where
+    H: Host,
+    H::Runtime: Sync,
+    H::Places: Send + Sync,
+    H::Callers: Send + Sync,
+    H::File: Send,
+    H::Folder: Send,
+    H::Handle: Send,
+    H::Rules: Sync,
+    H::Lines: Send,
+    H::Holder: Send,
+    H::Starter: Sync,
+    H::Job: Send,
+    H::Input: Send,
+    H::Output: Send,
+{
+    type Entrance = Entrance<'a, H>;
+
+    type Work = Admitted<'a, H>;
+
+    type Upward = Upward<H::Holder, H::Input>;
+
+    type Alive = Alive<'a, H>;
+
+    type Over = Over;
+
+    ghost retired = { λ over. over.is_retired };
+
+    fn passes_up(&self) -> bool {
+        self.service.mode == Mode::Pumped
+    }
+
+    fn begin(&self, admitted: Admitted<'a, H>) -> Result<Beginning<'a, H>, Over> {
+        admitted.begin()
+    }
+
+    fn pass_up(&self, upward: Upward<H::Holder, H::Input>) {
+        Server::pass_up(self, upward);
+    }
+
+    fn finish(&self, alive: Alive<'a, H>) -> Over {
+        alive.finish()
+    }
+
+    fn is_retired(&self, over: &Over) -> bool {
+        over.is_retired
     }
 }

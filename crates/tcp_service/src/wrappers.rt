@@ -4,7 +4,7 @@ ghost use Rattle.server_words.specs.declared.mode.Mode.TheVariants.{Pumped};
 ghost use Rattle.tcp_service.specs.Wrappers.{IsNewChain, WrapsBy, changed_by, told_by};
 ghost use Rattle.byte_streams.specs.Chains.{has_failed};
 
-use crate::service::Service;
+use crate::server::Service;
 use byte_streams::{AddCr, Chain, DelCr, FixCr, LineWrapper};
 use server_words::{LineWrapperName, Mode};
 use std::alloc::{AllocError, Global};

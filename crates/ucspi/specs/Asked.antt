@@ -8,7 +8,7 @@ use Rattle.server_parts.specs.Asked.{IsAskedPlan, accepts_at_once, accepts_from,
 use Rattle.server_parts.specs.Services.{AreNamesOf, IsSupplyIn}
 use Rattle.server_parts.specs.declared.sockets.SocketAcceptor.{SocketAcceptor}
 use Rattle.server_words.specs.Plans.{ServerPlan}
-use Rattle.tcp_service.specs.declared.service.Service.{Service}
+use Rattle.tcp_service.specs.declared.server.Service.{Service}
 
 -- what a server does for all connections: the limits of `-c`, `-k` and `-m`; names by `-N`, `-l`, `-h`, `-H` and `-p`; connections are handed over or
 -- pumped, with the descriptors that this takes; and what passes goes through the line wrappers of `-w`, each way in its
