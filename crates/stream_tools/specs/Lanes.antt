@@ -1,5 +1,5 @@
 -- What became of what was handed over to a pump, and of a program between two pumps.
-use Rattle.std.specs.Prelude.{◌≡◌, ◌≢◌, ◌^◌, ℕ, List, [], false, Option}
+use Rattle.std.specs.Prelude.{◌≡◌, ◌≢◌, ◌^◌, ℕ, List, [], false, Option, None}
 use Rattle.std.specs.Borrow.{Bor}
 use Rattle.std.specs.Fn.{FnOnceReturnsAt, Once}
 use Rattle.byte_streams.specs.Pumps.{KnownBytes, Pumped, ends_of}
@@ -24,6 +24,7 @@ use Rattle.byte_streams.specs.Wrapped.{fixed}
 use Rattle.byte_streams.specs.declared.chain.Chain.{Chain}
 use Rattle.byte_streams.specs.declared.recording.Way.{Way}
 use Rattle.byte_streams.specs.declared.wrappers.FixCr.{FixCr}
+use Rattle.stream_tools.specs.declared.between.BetweenFailure.{BetweenFailure}
 use Rattle.stream_tools.specs.declared.between.BetweenFault.{BetweenFault}
 use Rattle.stream_tools.specs.declared.between.BetweenFault.TheVariants.{CannotStart, OutOfMemory}
 use Rattle.stream_tools.specs.declared.between.Lane.{Lane}
@@ -94,6 +95,11 @@ abbrev pub LauncherRefuses : Type 0 → Type 1
 LauncherRefuses L = L → ProgramText → Variables → NotStarted → Type 0
 
 -- a launcher did not start this program with these variables, and that is told of it; the function says why it may not have
-abbrev pub IsNotStarted : {L : Type 0} → LauncherRefuses L → L → ProgramText → Variables → BetweenFault → Type 0
+abbrev pub IsNotStarted : {L : Type 0} → LauncherRefuses L → L → ProgramText → Variables → BetweenFailure → Type 0
 IsNotStarted refuses launcher program environment told =
-    (refusal : NotStarted) × refuses launcher program environment refusal × (told ≡ refusal_of refusal.fault)
+    (refusal : NotStarted) × refuses launcher program environment refusal
+    × (told ≡ record { fault = refusal_of refusal.fault; error = refusal.error })
+
+-- what is told of a program that was started and could not be served
+abbrev pub not_served : BetweenFailure
+not_served = record { fault = CannotStart; error = None }

@@ -4,8 +4,8 @@ ghost use Rattle.std.specs.Thread.{IsSend};
 ghost use Rattle.byte_streams.specs.Chains.{has_failed};
 ghost use Rattle.byte_streams.specs.Pumps.{Pumped, ends_of};
 ghost use Rattle.byte_streams.specs.Taps.{shown_to};
-ghost use Rattle.stream_tools.specs.Lanes.{Drained, Fed, IsNotStarted, IsRunOf, Ran};
-ghost use Rattle.stream_tools.specs.declared.between.BetweenFault.TheVariants.{CannotStart, OutOfMemory};
+ghost use Rattle.stream_tools.specs.Lanes.{Drained, Fed, IsNotStarted, IsRunOf, Ran, not_served};
+ghost use Rattle.stream_tools.specs.declared.between.BetweenFault.TheVariants.{OutOfMemory};
 
 use crate::filter::MOST_READS;
 use byte_streams::{
@@ -42,11 +42,29 @@ impl fmt::Display for BetweenFault {
     }
 }
 
-impl From<AllocError> for BetweenFault {
-    ghost from_gives = { λ _ fault. fault ≡ OutOfMemory };
+/// Why a program could not be run between pumps, and the system's number of the error (`errno`) by which it was not
+/// started, where it has one.
+#[derive(Clone, Copy)]
+pub struct BetweenFailure {
+    /// Why.
+    pub fault: BetweenFault,
+    /// The number of the error.
+    pub error: Option<i32>,
+}
 
-    fn from(_error: AllocError) -> BetweenFault {
-        BetweenFault::OutOfMemory
+impl From<BetweenFault> for BetweenFailure {
+    ghost from_gives = { λ fault failure. failure ≡ record { fault = fault; error = None } };
+
+    fn from(fault: BetweenFault) -> BetweenFailure {
+        BetweenFailure { fault, error: None }
+    }
+}
+
+impl From<AllocError> for BetweenFailure {
+    ghost from_gives = { λ _ failure. failure ≡ record { fault = OutOfMemory; error = None } };
+
+    fn from(_error: AllocError) -> BetweenFailure {
+        BetweenFailure::from(BetweenFault::OutOfMemory)
     }
 }
 
@@ -123,7 +141,7 @@ pub fn run_between<H, B, S, T, F>(
     run: (&Program, &Environment),
     lanes: Lanes<B, S, T>,
     watch: F,
-) -> Result<RunEnd, BetweenFault>
+) -> Result<RunEnd, BetweenFailure>
 where
     H: Threads + Wait + Sync,
     B: Between,
@@ -159,16 +177,19 @@ fn start_job<L: Launcher>(
     launcher: L,
     program: &Program,
     environment: &Environment,
-) -> Result<L::Job, BetweenFault>
+) -> Result<L::Job, BetweenFailure>
     ensures program { IfOk result (λ job. L.Job.program job ≡ program.now) }
     ensures environment { IfOk result (λ job. L.Job.environment job ≡ environment.now) }
     ensures refused { IfErr result (IsNotStarted L.refuses launcher program.now environment.now) }
 {
     match launcher.start(alloc, program, environment) {
         Ok(job) => Ok(job),
-        Err(refusal) => Err(match refusal.fault {
-            StartFault::OutOfMemory => BetweenFault::OutOfMemory,
-            _ => BetweenFault::CannotStart,
+        Err(refusal) => Err(BetweenFailure {
+            fault: match refusal.fault {
+                StartFault::OutOfMemory => BetweenFault::OutOfMemory,
+                _ => BetweenFault::CannotStart,
+            },
+            error: refusal.error,
         }),
     }
 }
@@ -213,18 +234,18 @@ where
 
 /// The end of a program, which is waited for once, and abandoned where that fails, with the ends of its pumps. One that was not served, since
 /// its input got no thread, has none, and is given up.
-pub fn end_of<J: Job>(job: J, pumps: Option<PumpEnds>) -> Result<RunEnd, BetweenFault>
+pub fn end_of<J: Job>(job: J, pumps: Option<PumpEnds>) -> Result<RunEnd, BetweenFailure>
     ensures ended { IfOk result (λ end. J.ended job end.status) }
     ensures pumps { IfOk result (λ end. pumps ≡ Some end.pumps) }
-    ensures served { pumps ≡ None → result ≡ Err CannotStart }
+    ensures served { pumps ≡ None → result ≡ Err not_served }
 {
     let Some(pumps) = pumps else {
         return Err(give_up(job));
     };
     match wait_once(job) {
         Ok(status) => Ok(RunEnd { status, pumps }),
-        Err(WaitFault::Failed) => Err(BetweenFault::Device),
-        Err(WaitFault::OutOfMemory) => Err(BetweenFault::OutOfMemory),
+        Err(WaitFault::Failed) => Err(BetweenFailure::from(BetweenFault::Device)),
+        Err(WaitFault::OutOfMemory) => Err(BetweenFailure::from(BetweenFault::OutOfMemory)),
     }
 }
 
@@ -242,12 +263,12 @@ fn wait_once<J: Job>(job: J) -> Result<Status, WaitFault>
 }
 
 /// Ends a program that can't be served, whatever the system answers.
-fn give_up<J: Job>(mut job: J) -> BetweenFault
-    ensures { result ≡ CannotStart }
+fn give_up<J: Job>(mut job: J) -> BetweenFailure
+    ensures { result ≡ not_served }
 {
     let _ = job.kill();
     let _ = wait_once(job);
-    BetweenFault::CannotStart
+    BetweenFailure::from(BetweenFault::CannotStart)
 }
 
 /// What the thread of a program's input promises of the end that it gives: its pump ran from this lane to this pipe.

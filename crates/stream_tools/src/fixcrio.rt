@@ -6,7 +6,7 @@ ghost use Rattle.stream_tools.specs.Lanes.{Drained, Fed, IsFixing, IsNotStarted,
 ghost use Rattle.stream_tools.specs.declared.between.BetweenFault.TheVariants.{OutOfMemory};
 ghost use Rattle.stream_tools.specs.declared.between.Lane.{Lane};
 
-use crate::between::{Between, BetweenFault, Lane, RunEnd, run_between};
+use crate::between::{Between, BetweenFailure, Lane, RunEnd, run_between};
 use crate::filter::chain_of;
 use byte_streams::{FixCr, LineWrapper, NoTap, Tap, Watch};
 use child_jobs::{Environment, Job, Launcher, Program};
@@ -26,7 +26,7 @@ pub fn fix_between<H, B, F>(
     run: (&Program, &Environment),
     streams: (B::Reader, B::Writer),
     watch: F,
-) -> Result<RunEnd, BetweenFault>
+) -> Result<RunEnd, BetweenFailure>
 where
     H: Threads + Wait + Sync,
     B: Between,
@@ -43,7 +43,7 @@ where
     ensures output { IfOk result (λ end. (lane : Lane B.Writer FixCr NoTap) × IsFixing streams.1 lane
         × Drained B.Output.remaining B.Writer.contents ⟦<FixCr as LineWrapper>⟧.rest
         ⟦<NoTap as Tap>⟧.watches ⟦<NoTap as Tap>⟧.sees ⟦<NoTap as Tap>⟧.ends lane end.pumps.output) }
-    ensures fault { IfErr result (λ why. (why ≡ OutOfMemory)
+    ensures fault { IfErr result (λ why. (why.fault ≡ OutOfMemory)
         ⊎ (IsNotStarted B.Launcher.refuses launcher run.entry.0.now run.entry.1.now why
         ⊎ ((job : B.Job) × IsRunOf B.Job.program B.Job.environment run.entry.0.now run.entry.1.now job))) }
 {

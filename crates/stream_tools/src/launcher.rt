@@ -5,7 +5,6 @@ use crate::process::{ChildProcess, not_started, start_process};
 use crate::search::SearchPath;
 use child_jobs::{Environment, Exit, Job, Launcher, NoEnds, NotStarted, Program, WaitFault};
 use std::alloc::Global;
-use std::cell::Cell;
 use std::fs::Files;
 use std::io;
 use std::os::fd::{AsRawFd, OwnedFd, RawFd};
@@ -97,41 +96,6 @@ impl<'a, P: Processes + Files> Launcher for OsLauncher<'a, P> {
         environment: &Environment,
     ) -> Result<OsJob, NotStarted> {
         self.start_between(alloc, program, environment)
-    }
-}
-
-/// A launcher that notes the system's number of the error by which a program was not started.
-#[derive(Drop)]
-pub struct NotingLauncher<'a, P> {
-    launcher: OsLauncher<'a, P>,
-    error: &'a Cell<Option<i32>>,
-}
-
-impl<'a, P> NotingLauncher<'a, P> {
-    /// This launcher, whose errors are noted there.
-    pub fn new(launcher: OsLauncher<'a, P>, error: &'a Cell<Option<i32>>) -> NotingLauncher<'a, P> {
-        NotingLauncher { launcher, error }
-    }
-}
-
-impl<'a, P: Processes + Files> Launcher for NotingLauncher<'a, P> {
-    type Job = OsJob;
-
-    ghost refuses = { λ _ _ _ _. ⊤ };
-
-    fn start(
-        self,
-        alloc: Global,
-        program: &Program,
-        environment: &Environment,
-    ) -> Result<OsJob, NotStarted> {
-        match self.launcher.start_between(alloc, program, environment) {
-            Ok(job) => Ok(job),
-            Err(refusal) => {
-                self.error.set(refusal.error);
-                Err(refusal)
-            }
-        }
     }
 }
 

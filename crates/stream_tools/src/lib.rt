@@ -19,7 +19,7 @@ pub mod shared;
 pub mod started;
 pub mod tools;
 
-pub use between::{Between, BetweenFault, Lane, PumpEnds, RunEnd, run_between};
+pub use between::{Between, BetweenFailure, BetweenFault, Lane, PumpEnds, RunEnd, run_between};
 pub use filter::{FilterFault, add_returns, delete_returns, run_filter};
 pub use launcher::{OsJob, OsLauncher};
 pub use search::SearchPath;

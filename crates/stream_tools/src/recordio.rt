@@ -9,7 +9,7 @@ ghost use Rattle.stream_tools.specs.Lanes.{Drained, Fed, IsNotStarted, IsRecordi
 ghost use Rattle.stream_tools.specs.Programs.{recorder_number};
 ghost use Rattle.stream_tools.specs.declared.between.Lane.{Lane};
 
-use crate::between::{Between, BetweenFault, Lane, RunEnd, run_between};
+use crate::between::{Between, BetweenFailure, Lane, RunEnd, run_between};
 use byte_streams::{Chain, FixCr, LineWrapper, Recorder, Tap, Watch, Way};
 use child_jobs::{Environment, Job, Launcher, Program};
 use server_words::number_in;
@@ -31,7 +31,7 @@ pub fn record_between<H, B, W, F>(
     streams: (B::Reader, B::Writer),
     errors: (W, W),
     watch: F,
-) -> Result<RunEnd, BetweenFault>
+) -> Result<RunEnd, BetweenFailure>
 where
     H: Threads + Wait + Sync,
     B: Between,

@@ -1,7 +1,7 @@
 //! The tools over the standard streams and the system's programs.
-use crate::between::{Between, BetweenFault};
+use crate::between::{Between, BetweenFailure};
 use crate::fixcrio::fix_between;
-use crate::launcher::{NotingLauncher, OsJob, OsLauncher};
+use crate::launcher::{OsJob, OsLauncher};
 use crate::recordio::record_between;
 use crate::search::SearchPath;
 use crate::shared::SharedWriter;
@@ -9,7 +9,6 @@ use crate::started::{SystemGiven, inherited_variables, program_of};
 use byte_streams::{Patient, Watch};
 use child_jobs::{Environment, Program, Status};
 use std::alloc::{AllocError, Global};
-use std::cell::Cell;
 use std::fs::Files;
 use std::io;
 use std::io::{Printer, Write};
@@ -41,7 +40,7 @@ impl<'a, R: Input + Print + Processes + Clock + Files> Between for OverSystem<'a
 
     type Job = OsJob;
 
-    type Launcher = NotingLauncher<'a, R>;
+    type Launcher = OsLauncher<'a, R>;
 }
 
 /// What a tool was told that runs a program: the program, its variables, and where programs are looked for.
@@ -66,32 +65,26 @@ impl ToldRun {
 /// Runs a program whose lines get a carriage return where they have none, both ways.
 ///
 /// # Errors
-/// As of `fix_between`. Where the system did not start the program the number of its error is left in `error`.
-pub fn run_fixcrio<R>(
-    rt: &R,
-    words: &[Vec<u8>],
-    error: &mut Option<i32>,
-) -> Result<Status, BetweenFault>
+/// As of `fix_between`.
+pub fn run_fixcrio<R>(rt: &R, words: &[Vec<u8>]) -> Result<Status, BetweenFailure>
 where
     R: Env + Input + Print + AllocGlobal + Processes + Threads + Wait + Sync + Clock + Net + Files,
     R::Reader: Send,
 {
     let told = ToldRun::by_words(rt.alloc(), rt, words)?;
-    let noted = Cell::new(None);
-    let status = fix_told(rt, &told, &noted);
-    *error = noted.get();
+    let status = fix_told(rt, &told);
     drop(told);
     status
 }
 
 /// `fixcrio` of a program that was told, over the standard streams.
-fn fix_told<R>(rt: &R, told: &ToldRun, error: &Cell<Option<i32>>) -> Result<Status, BetweenFault>
+fn fix_told<R>(rt: &R, told: &ToldRun) -> Result<Status, BetweenFailure>
 where
     R: Input + Print + AllocGlobal + Processes + Threads + Wait + Sync + Clock + Net + Files,
     R::Reader: Send,
 {
     let alloc = rt.alloc();
-    let launcher = NotingLauncher::new(OsLauncher::new(rt, &told.search), error);
+    let launcher = OsLauncher::new(rt, &told.search);
     let run = (&told.program, &told.variables);
     let streams = (
         Patient::new(rt, rt.reader()),
@@ -106,13 +99,8 @@ where
 /// Runs a program, and records what goes both ways on `errors`.
 ///
 /// # Errors
-/// As of `record_between`; `error` as for `run_fixcrio`.
-pub fn run_recordio<R, E>(
-    rt: &R,
-    errors: E,
-    words: &[Vec<u8>],
-    error: &mut Option<i32>,
-) -> Result<Status, BetweenFault>
+/// As of `record_between`.
+pub fn run_recordio<R, E>(rt: &R, errors: E, words: &[Vec<u8>]) -> Result<Status, BetweenFailure>
 where
     R: Env + Input + Print + AllocGlobal + Processes + Threads + Wait + Sync + Clock + Net + Files,
     R::Reader: Send,
@@ -121,32 +109,25 @@ where
     let errors = Mutex::new(errors);
     let status = match ToldRun::by_words(rt.alloc(), rt, words) {
         Ok(told) => {
-            let noted = Cell::new(None);
-            let status = record_told(rt, &errors, &told, &noted);
-            *error = noted.get();
+            let status = record_told(rt, &errors, &told);
             drop(told);
             status
         }
-        Err(_) => Err(BetweenFault::OutOfMemory),
+        Err(error) => Err(BetweenFailure::from(error)),
     };
     drop(errors);
     status
 }
 
 /// `recordio` of a program that was told, over the standard streams.
-fn record_told<R, E>(
-    rt: &R,
-    errors: &Mutex<E>,
-    told: &ToldRun,
-    error: &Cell<Option<i32>>,
-) -> Result<Status, BetweenFault>
+fn record_told<R, E>(rt: &R, errors: &Mutex<E>, told: &ToldRun) -> Result<Status, BetweenFailure>
 where
     R: Input + Print + AllocGlobal + Processes + Threads + Wait + Sync + Clock + Net + Files,
     R::Reader: Send,
     E: Write + Send + Drop,
 {
     let alloc = rt.alloc();
-    let launcher = NotingLauncher::new(OsLauncher::new(rt, &told.search), error);
+    let launcher = OsLauncher::new(rt, &told.search);
     let run = (&told.program, &told.variables);
     let streams = (
         Patient::new(rt, rt.reader()),

@@ -9,7 +9,7 @@ use std::sync::atomic::Ordering;
 use std::sync::{Mutex, Wait};
 use std::thread::Threads;
 use std::time::Clock;
-use stream_tools::{Between, BetweenFault, Lane, SharedWriter, run_between};
+use stream_tools::{Between, BetweenFailure, Lane, SharedWriter, run_between};
 
 /// What the program is sent.
 const SENT: &[u8] = b"down\n.\n";
@@ -46,7 +46,7 @@ pub fn add_between<R: Threads + Wait + Clock + Sync>(
     match status {
         Ok(Status::Code(code)) => out.count("code ", u64::from(code)),
         Ok(Status::Signal) => out.text("signal"),
-        Err(fault) => out.show(&fault),
+        Err(failure) => out.show(&failure.fault),
     }
     out.count(", ", tally.kills.load(Ordering::SeqCst));
     out.count(" kills, ", tally.waits.load(Ordering::SeqCst));
@@ -68,7 +68,7 @@ fn run<R: Threads + Wait + Clock + Sync>(
     scripts: &[String],
     tally: &ServedTally,
     written: &Mutex<Vec<u8>>,
-) -> Result<Status, BetweenFault> {
+) -> Result<Status, BetweenFailure> {
     let launcher = Scripts {
         rt,
         words: scripts,

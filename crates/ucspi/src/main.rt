@@ -32,11 +32,11 @@ fn main(rt: HostRuntime) -> ExitCode {
             Err(fault) => Err(fault),
         }
     };
-    let pass = |recorded: bool, words: &[Vec<u8>], error: &mut Option<i32>| {
+    let pass = |recorded: bool, words: &[Vec<u8>]| {
         if recorded {
-            run_recordio(&rt, Patient::new(&rt, rt.stderr()), words, error)
+            run_recordio(&rt, Patient::new(&rt, rt.stderr()), words)
         } else {
-            run_fixcrio(&rt, words, error)
+            run_fixcrio(&rt, words)
         }
     };
     ExitCode::from(run_system(&rt, rt.stderr(), serve, pass))

@@ -1,5 +1,5 @@
 -- What a run of the program is: the tool that its words ask for, what it does, and the code with which it exits.
-use Rattle.std.specs.Prelude.{◌≡◌, ◌⊎◌, ℕ, ℤ, Bool, List, [], Option, Some, None, Result, Ok, Err, IsTrue, IfSome, OnOk, drop, codes}
+use Rattle.std.specs.Prelude.{◌≡◌, ◌⊎◌, ℕ, Bool, List, [], Option, Some, None, Result, Ok, Err, IsTrue, IfSome, OnOk, drop, codes}
 use Rattle.std.specs.Io.KnownBytes.{Appends}
 use Rattle.std.specs.declared.io.Error.{Error}
 use Rattle.byte_streams.specs.Wrapped.{added, deleted}
@@ -13,7 +13,7 @@ use Rattle.script_tool.specs.declared.sim.SimFault.{SimFault}
 use Rattle.server_parts.specs.declared.fault.TcpserverFault.{TcpserverFault}
 use Rattle.stream_tools.specs.Entries.{path_among}
 use Rattle.stream_tools.specs.Filters.{Came}
-use Rattle.stream_tools.specs.declared.between.BetweenFault.{BetweenFault}
+use Rattle.stream_tools.specs.declared.between.BetweenFailure.{BetweenFailure}
 use Rattle.stream_tools.specs.declared.filter.FilterFault.{FilterFault}
 use Rattle.ucspi_tools.specs.Causes.{TellsCause, TellsLines, TellsReview, TellsRules, TellsStart, help_text}
 use Rattle.ucspi_tools.specs.Choices as asked
@@ -36,7 +36,7 @@ pub record Lent (C : Type 0) : Type 1 where
   pub installs : List ℕ → List ℕ → C → C → Result (Unit {0}) RulesFailure → Type 0
   pub reviews : C → C → Result Bool ReviewFault → Type 0
   pub checks : List ℕ → C → C → Result (Unit {0}) CheckFailure → Type 0
-  pub passes : Bool → List (List ℕ) → C → C → Option ℤ → Result Status BetweenFault → Type 0
+  pub passes : Bool → List (List ℕ) → C → C → Result Status BetweenFailure → Type 0
   pub tells : List ℕ → ToolFault → List ℕ → C → C → Type 0
 
 -- nothing is known of them
@@ -48,7 +48,7 @@ anything =
       installs = λ cdb tmp old new own. Unit {0};
       reviews = λ old new own. Unit {0};
       checks = λ cdb old new own. Unit {0};
-      passes = λ recorded words old new error own. Unit {0};
+      passes = λ recorded words old new own. Unit {0};
       tells = λ name fault causes old new. Unit {0};
     }
 
@@ -94,11 +94,10 @@ CheckEnds detail cdb (Err failure) before causes answer =
     TellsCause detail (codes "tcprulescheck") cdb cdb failure.cause before causes
     × (answer ≡ Err (kind.Check failure.fault))
 
-abbrev pub PassEnds : Detail → List ℕ → List (List ℕ) → Option ℤ → Result Status BetweenFault → List ℕ → List ℕ → Answer → Type 0
-PassEnds detail tool words error (Ok status) before causes answer =
-    (causes ≡ before) × (answer ≡ Ok (status_exit status))
-PassEnds detail tool words error (Err fault) before causes answer =
-    TellsStart detail tool words error before causes × (answer ≡ Err (kind.Between fault))
+abbrev pub PassEnds : Detail → List ℕ → List (List ℕ) → Result Status BetweenFailure → List ℕ → List ℕ → Answer → Type 0
+PassEnds detail tool words (Ok status) before causes answer = (causes ≡ before) × (answer ≡ Ok (status_exit status))
+PassEnds detail tool words (Err failure) before causes answer =
+    TellsStart detail tool words failure.error before causes × (answer ≡ Err (kind.Between failure.fault))
 
 -- each of these tools runs once, with its words, and the answer is made of its own
 abbrev pub Installs : {C : Type 0} → Lent C → Detail → List ℕ → List ℕ → C → C → List ℕ → List ℕ → Answer → Type 0
@@ -116,8 +115,8 @@ Checks lent detail cdb old new before causes answer =
 
 abbrev pub Passes : {C : Type 0} → Lent C → Detail → Bool → List (List ℕ) → C → C → List ℕ → List ℕ → Answer → Type 0
 Passes lent detail recorded words old new before causes answer =
-    (error : Option ℤ) × (own : Result Status BetweenFault) × lent.passes recorded words old new error own
-    × PassEnds detail (name_of (passing recorded)) words error own before causes answer
+    (own : Result Status BetweenFailure) × lent.passes recorded words old new own
+    × PassEnds detail (name_of (passing recorded)) words own before causes answer
 
 -- a text was passed on, made so: all of it, to its end, where that is answered, and else as far as the fault says
 abbrev pub Filtered : (made : List ℕ → List ℕ) → (read left wrote holds : Option (List ℕ)) → Result (Unit {0}) FilterFault → Type 0

@@ -8,7 +8,7 @@ use fault_hints::Voice;
 use rules_tools::{CheckFailure, ReviewFault, RulesFailure};
 use script_tool::SimFault;
 use server_parts::TcpserverFault;
-use stream_tools::BetweenFault;
+use stream_tools::BetweenFailure;
 
 /// The tools over the system's files, programs and sockets, and the line of a fault: each is one call.
 pub trait Calls {
@@ -60,19 +60,13 @@ pub trait Calls {
     fn check(&mut self, cdb: &str) -> Result<(), CheckFailure>
         ensures { lent.checks cdb.now self.old self.new result };
 
-    /// `recordio` where it is recorded, else `fixcrio`, by the words of the program. The number of the system's error
-    /// is left in `error` where it did not start it.
+    /// `recordio` where it is recorded, else `fixcrio`, by the words of the program.
     ///
     /// # Errors
     /// The program could not be run between the two streams.
-    fn pass(
-        &mut self,
-        recorded: bool,
-        words: &[Vec<u8>],
-        error: &mut Option<i32>,
-    ) -> Result<Status, BetweenFault>
+    fn pass(&mut self, recorded: bool, words: &[Vec<u8>]) -> Result<Status, BetweenFailure>
         requires { ready self.old }
-        ensures { lent.passes recorded (texts_of words.now) self.old self.new error.new result };
+        ensures { lent.passes recorded (texts_of words.now) self.old self.new result };
 
     /// Tells a fault under a name, of a tool or of the program, and behind it its causes.
     fn tell(&mut self, name: &str, fault: ToolFault, causes: &[u8])

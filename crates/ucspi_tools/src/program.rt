@@ -235,12 +235,18 @@ fn pass<C: Calls>(
         causes.old.items causes.new.items result }
 {
     let (recorded, words) = told;
-    let mut error = None;
-    match calls.pass(recorded, words, &mut error) {
+    match calls.pass(recorded, words) {
         Ok(status) => Ok(status_code(status)),
-        Err(fault) => {
-            append_start(causes, alloc, detail, Tool::passing(recorded), words, error);
-            Err(ToolFault::Between(fault))
+        Err(failure) => {
+            append_start(
+                causes,
+                alloc,
+                detail,
+                Tool::passing(recorded),
+                words,
+                failure.error,
+            );
+            Err(ToolFault::Between(failure.fault))
         }
     }
 }

@@ -20,7 +20,7 @@ use std::io;
 use std::io::{BufWriter, Read, Write};
 use std::rt::Env;
 use std::time::Clock;
-use stream_tools::BetweenFault;
+use stream_tools::BetweenFailure;
 use stream_tools::started::SystemGiven;
 
 /// Runs the program over the system, and answers its exit code. `errors` is standard error. Those tools that start
@@ -31,7 +31,7 @@ where
     R: Env + Input + Print + AllocGlobal + Files<File = File> + Clock,
     E: Write + Copy + Drop,
     S: Fn(Voice, &[Vec<u8>], &mut Vec<u8>) -> Result<(), TcpserverFault> + Drop,
-    P: Fn(bool, &[Vec<u8>], &mut Option<i32>) -> Result<Status, BetweenFault> + Drop,
+    P: Fn(bool, &[Vec<u8>]) -> Result<Status, BetweenFailure> + Drop,
     requires { S.IsAlwaysCallable serve × P.IsAlwaysCallable pass }
 {
     let mut program = Program {
@@ -72,7 +72,7 @@ where
     E: Write + Copy + Drop,
     W: Write,
     S: Fn(Voice, &[Vec<u8>], &mut Vec<u8>) -> Result<(), TcpserverFault>,
-    P: Fn(bool, &[Vec<u8>], &mut Option<i32>) -> Result<Status, BetweenFault>,
+    P: Fn(bool, &[Vec<u8>]) -> Result<Status, BetweenFailure>,
 {
     ghost lent = { telling (λ _ fault causes old new.
         IsWritten fault causes (W.contents old.told) (W.contents new.told)) };
@@ -111,13 +111,8 @@ where
         check_over(self.rt, errors, output, cdb)
     }
 
-    fn pass(
-        &mut self,
-        recorded: bool,
-        words: &[Vec<u8>],
-        error: &mut Option<i32>,
-    ) -> Result<Status, BetweenFault> {
-        (self.pass)(recorded, words, error)
+    fn pass(&mut self, recorded: bool, words: &[Vec<u8>]) -> Result<Status, BetweenFailure> {
+        (self.pass)(recorded, words)
     }
 
     fn tell(&mut self, name: &str, fault: ToolFault, causes: &[u8]) {
