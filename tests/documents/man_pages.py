@@ -240,9 +240,9 @@ def usages():
     return {names[variant]: usage[variant] for variant in names}
 
 
-def letters():
-    """The options of tcpserver: `plain`, `valued` or `refused`."""
-    text = re.search(r'TCPSERVER_LETTERS: &str = "([^"]*)"', read("server_words/src/letter.rt")).group(1)
+def letters(name="TCPSERVER_LETTERS"):
+    """The options of tcpserver: `plain`, `valued` or `refused`; or those by which the level is looked for, of which none is refused."""
+    text = re.search(r'%s: &str = "([^"]*)"' % name, read("server_words/src/server_options.rt")).group(1)
     kinds = {"": "plain", ":": "valued", "!": "refused"}
     return {letter: kinds[mark] for letter, mark in re.findall(r"([^:!])([:!]?)", text)}
 
@@ -354,6 +354,8 @@ def check_server_words(checks):
     page = Page("tcpserver")
     kinds = letters()
     wanted = {letter: kind == "valued" for letter, kind in kinds.items() if kind != "refused"}
+    refused = {letter: kind for letter, kind in kinds.items() if kind == "refused"}
+    checks.same("tcpserver: letters by which the level is looked for", dict(letters("HEARD_LETTERS"), **refused), kinds)
     checks.same("tcpserver: options", page.options(), wanted)
     checks.same("tcpserver: options of the synopsis", page.synopsis_options(), wanted)
     with open(os.path.join(TOP, "docs", "OPTIONS.md"), encoding="utf-8") as file:
@@ -361,7 +363,7 @@ def check_server_words(checks):
     numbers = [(letter, int(least.replace(",", "")), int(most.replace(",", ""))) for letter, least, most in rows]
     wanted_numbers = [(letter, *ends) for letter, ends in plain_words.NUMBERS.items()]
     checks.same("tcpserver: numbers and their order, as docs/OPTIONS.md has them", numbers, wanted_numbers)
-    checks.same("tcpserver: options that are refused", page.refused(), {letter for letter, kind in kinds.items() if kind == "refused"})
+    checks.same("tcpserver: options that are refused", page.refused(), set(refused))
     usage = next(text for text in word_texts() if "usage: " in text)
     checks.same("tcpserver: synopsis", "tcpserver: usage: " + page.synopsis().replace(" ", " [options] ", 1), usage)
     checks.same("tcpserver: texts of words", {text: page.texts().get(text) for text in word_texts()}, word_texts())

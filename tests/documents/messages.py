@@ -162,8 +162,9 @@ def words(tools):
     for letter in "ugU":
         tools.hinted("-" + letter, ["tcpserver", "-" + letter, "0", "25", "true"], "option -%s is not in this profile" % letter, USER)
     tools.hinted("-r", ["tcpserver", "-r", "0", "25", "true"], "option -r is not in this profile", ["leave -r out: nothing else is known of a client"])
-    for letter in "ckm":
-        tools.hinted("-%s 0" % letter, ["tcpserver", "-%s0" % letter, "0", "25", "true"], "option -%s has a bad number" % letter, ["1 to 10000", "1 to 4294967295"])
+    ranges = ["-" + letter for letter in plain_words.NUMBERS] + ["%d to %d" % ends for ends in plain_words.NUMBERS.values()]
+    for letter in plain_words.NUMBERS:
+        tools.hinted("-%s x" % letter, ["tcpserver", "-%sx" % letter, "0", "25", "true"], "option -%s has a bad number" % letter, ranges)
     tools.hinted("-w x", ["tcpserver", "-w", "x", "0", "25", "true"], "bad wrappers", ["hint: -w takes addcr, delcr, fixcrio"])
     for word in ("-z", "--help2", "-c"):
         named, other = tools.run(["tcpserver", word]), tools.run(["tcpserver", word], False)

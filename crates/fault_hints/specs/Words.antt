@@ -6,10 +6,11 @@ use Rattle.server_words.specs.declared.fault.ServerWordsFault.TheVariants.{Usage
 use Rattle.server_words.specs.declared.option_fault.WordFault.{WordFault}
 use Rattle.fault_hints.specs.declared.words.Lacking.{Lacking}
 use Rattle.fault_hints.specs.declared.words.Lacking.TheVariants.{Host, Port, Program}
-use Rattle.fault_hints.specs.declared.words.TheConstants.{HEARD_LETTERS, HOSTS, NUMBERS, OPTIONS, PEERS, PORTS, USERS, WRAPPERS}
+use Rattle.fault_hints.specs.declared.words.TheConstants.{HOSTS, PEERS, PORTS, USERS, WRAPPERS}
 use Rattle.fault_hints.specs.declared.voice.Detail.{Detail}
 use Rattle.fault_hints.specs.declared.voice.Detail.TheVariants.{Line, Cause, Hint}
 use Rattle.fault_hints.specs.declared.voice.Voice.{Voice}
+use Rattle.server_words.specs.declared.server_options.TheConstants.{HEARD_LETTERS, NUMBERS_HINT, OPTIONS}
 use Rattle.server_words.specs.Operands.{address_in, port_in}
 use Rattle.server_words.specs.Options.{letter}
 use Rattle.server_words.specs.Plans.{level_of}
@@ -62,7 +63,7 @@ abbrev pub help_text : Detail → ServerWordsFault → List (List ℕ) → List 
 help_text Cause Usage rest = lacking_line Cause (lacking_in rest)
 help_text Hint Usage rest = lacking_line Hint (lacking_in rest) ++ OPTIONS.now
 help_text Hint (NotInProfile refused) rest = refused_hint refused
-help_text Hint (BadNumber bad) rest = NUMBERS.now
+help_text Hint (BadNumber bad) rest = NUMBERS_HINT.now
 help_text Hint BadWrappers rest = WRAPPERS.now
 help_text detail fault rest = []
 

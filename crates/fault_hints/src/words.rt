@@ -8,37 +8,14 @@ ghost use Rattle.server_words.specs.Words.{Refuses, reading};
 use crate::voice::{Detail, Voice};
 use byte_text::{append_cause, push_text, whole_or_none};
 use server_words::option_laws::by_the_rules;
-use server_words::{Level, Options, ServerWordsFault, WordFault, address_of, port_of, read_words};
+use server_words::{
+    HEARD_LETTERS, Level, NUMBERS_HINT, OPTIONS, Options, ServerWordsFault, WordFault, address_of,
+    port_of, read_words,
+};
 use std::alloc::{AllocError, Global};
-
-/// The letters of `tcpserver`, by which the level is looked for that words ask for, though they have letters that are refused.
-pub const HEARD_LETTERS: &str = "vQq1c:k:m:x:XB:l:N:hHpPsSw:ROodDt:b:ru:g:U";
 
 /// The tool, as the lines of causes name it.
 const TOOL: &str = "tcpserver";
-
-/// The words of `tcpserver` and its options, a line each.
-pub const OPTIONS: &str = "\
-host        0 for all addresses of the machine, localhost, or an IPv4 address\n\
-port        0 to 65535; 0 takes a free one\n\
-prog        a path, or a name that is looked for along PATH\n\
--1          print the local port on standard output\n\
--B text     write text to each connection before the rules are asked\n\
--c n        serve n connections at once: 1 to 10000, else 40\n\
--D, -d      set TCP_NODELAY on connections, or don't (as without either)\n\
--H, -h      take no client's name from the host table, or do (as without either)\n\
--k n        end after n connections: 1 to 4294967295\n\
--l name     the server's own name, for TCPLOCALHOST\n\
--m n        serve n connections of one address at once: 1 to 10000\n\
--N path     read names of clients from this host table\n\
--p, -P      forget a client's name that the table doesn't confirm, or keep it (as without either)\n\
--q, -Q, -v  print nothing, errors (as without any), or all lines of the log\n\
--S, -s      pass the bytes of connections on, or hand connections over (as without either)\n\
--w names    pass the bytes through recordio, addcr, delcr, fixcrio: names with commas between\n\
--x path     follow the rules that tcprules compiled there\n\
--X          allow all while the rules file is missing\n\
--R, -O, -o, -t n, -b n  accepted, without effect\n\
--r, -u, -g, -U          refused\n";
 
 /// What is no host, and what is one.
 pub const HOSTS: &str = "no host: 0, localhost or an IPv4 address";
@@ -54,9 +31,6 @@ tcpserver: hint: see tcpserver(1), Ports under 1024 and users\n";
 
 /// What to do without `-r`.
 pub const PEERS: &str = "tcpserver: hint: leave -r out: nothing else is known of a client\n";
-
-/// The numbers that options take.
-pub const NUMBERS: &str = "tcpserver: hint: -c and -m take 1 to 10000, -k takes 1 to 4294967295\n";
 
 /// What `-w` takes.
 pub const WRAPPERS: &str =
@@ -158,7 +132,7 @@ fn push_detail(
         (Detail::Hint, ServerWordsFault::NotInProfile(letter)) => {
             push_text(out, refused_hint(letter))
         }
-        (Detail::Hint, ServerWordsFault::BadNumber(_)) => push_text(out, NUMBERS),
+        (Detail::Hint, ServerWordsFault::BadNumber(_)) => push_text(out, NUMBERS_HINT),
         (Detail::Hint, ServerWordsFault::BadWrappers) => push_text(out, WRAPPERS),
         _ => Ok(()),
     }

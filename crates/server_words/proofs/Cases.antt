@@ -14,6 +14,7 @@ use Rattle.server_words.specs.declared.fault.ServerWordsFault.TheVariants as fau
 use Rattle.server_words.specs.declared.level.Level.TheVariants.{Quiet, Errors}
 use Rattle.server_words.specs.declared.mode.Mode.{Mode}
 use Rattle.server_words.specs.declared.mode.Mode.TheVariants.{HandedOver, Pumped}
+use Rattle.server_words.specs.declared.server_options.TheConstants.ConnectionLimits.{DEFAULT}
 use Rattle.server_words.specs.declared.wrapping.LineWrapperName.TheVariants.{AddCr, DelCr, FixCr}
 use Rattle.server_words.specs.Faults.{fault_text}
 use Rattle.server_words.specs.Operands.{address_in, port_in}
@@ -32,7 +33,7 @@ part f line = option_map f (result_ok (plan line))
 without_options : plan (codes "0 25 cat -v") ≡ Ok (record {
   level = Errors;
   prints_port = false;
-  limits = record { connections = 40; per_address = 40; count = None };
+  limits = record DEFAULT { connections = 40; per_address = 40; count = None };
   rules = None;
   missing = Deny;
   banner = [];
@@ -109,11 +110,11 @@ unfolding part plan chars encode meaning_of
 allowed = refl
 
 -- numbers
-limits : part (λ p. p.limits) (codes "-c7 -k 0003 0 25 cat") ≡ Some (record { connections = 7; per_address = 7; count = Some 3 })
+limits : part (λ p. p.limits) (codes "-c7 -k 0003 0 25 cat") ≡ Some (record DEFAULT { connections = 7; per_address = 7; count = Some 3 })
 unfolding part plan chars encode meaning_of
 limits = refl
 
-limits_of_an_address : part (λ p. p.limits) (codes "-m10000 0 25 cat") ≡ Some (record { connections = 40; per_address = 10000; count = None })
+limits_of_an_address : part (λ p. p.limits) (codes "-m10000 0 25 cat") ≡ Some (record DEFAULT { connections = 40; per_address = 10000; count = None })
 unfolding part plan chars encode meaning_of
 limits_of_an_address = refl
 

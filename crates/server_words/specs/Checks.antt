@@ -1,12 +1,11 @@
 -- The checks of words whose options were read, in their order, and the fault that each finds.
-use Rattle.std.specs.Prelude.{ℕ, Bool, false, not, is_none, List, [], ◌∷◌, Option, Some, None, codes, if◌then◌else◌}
-use Rattle.std.specs.Option.{option_map_or}
-use Rattle.server_words.specs.Numbers.{is_number_between}
-use Rattle.server_words.specs.OptionWords.{value_of}
+use Rattle.std.specs.Prelude.{ℕ, Bool, is_none, List, [], ◌∷◌, ◌++◌, map, Option, Some, None, codes, if◌then◌else◌}
+use Rattle.server_words.specs.OptionWords.{NumberOption, has_bad, value_of}
 use Rattle.server_words.specs.Words.{LetterGiven, Reading}
 use Rattle.server_words.specs.declared.fault.ServerWordsFault.{ServerWordsFault}
 use Rattle.server_words.specs.declared.fault.ServerWordsFault.TheVariants as fault
 use Rattle.server_words.specs.declared.mode.Mode.{Mode}
+use Rattle.server_words.specs.Limits.{numbers}
 use Rattle.server_words.specs.Modes.{mode_in}
 use Rattle.server_words.specs.Operands.{operands_in}
 use Rattle.server_words.specs.Options.{letter}
@@ -16,13 +15,9 @@ use Rattle.server_words.specs.Wrappings.{wrapping_in}
 abbrev pub found : Bool → ServerWordsFault → Option ServerWordsFault
 found fails f = if fails then Some f else None
 
--- an option has a value that is no number from 1 to the greatest
-abbrev pub has_bad_number : List LetterGiven → ℕ → ℕ → Bool
-has_bad_number options letter greatest =
-    option_map_or (λ text. not (is_number_between text 1 greatest)) (value_of options letter) false
-
-abbrev pub number_check : List LetterGiven → ℕ → ℕ → Option ServerWordsFault
-number_check options letter greatest = found (has_bad_number options letter greatest) (fault.BadNumber letter)
+-- an option has a bad number
+abbrev pub number_check : List LetterGiven → NumberOption → Option ServerWordsFault
+number_check options option = found (has_bad options option) (fault.BadNumber option.letter)
 
 -- the words after the options are no host, port and program
 abbrev pub operands_check : List (List ℕ) → Option ServerWordsFault
@@ -39,10 +34,8 @@ mode_check by_name options = found (is_none (mode_in by_name options)) fault.Bad
 -- the checks
 abbrev pub checks : Mode → Reading → List (Option ServerWordsFault)
 checks by_name read =
-    number_check read.options (letter (codes "c")) 10000
-    ∷ number_check read.options (letter (codes "k")) 4294967295
-    ∷ number_check read.options (letter (codes "m")) 10000
-    ∷ operands_check read.rest
+    map (number_check read.options) numbers
+    ++ operands_check read.rest
     ∷ wrapping_check read.options
     ∷ mode_check by_name read.options
     ∷ []

@@ -1,43 +1,45 @@
 -- The numbers that options give.
-use Rattle.std.specs.Prelude.{ℕ, List, Option, Some, None, Result, Ok, Err, codes}
+use Rattle.std.specs.Prelude.{ℕ, List, [], ◌∷◌, Option, Some, None, Result, Ok, Err, codes, find, unwrap_or}
 use Rattle.server_words.specs.declared.option_fault.WordFault.{WordFault}
 use Rattle.server_words.specs.declared.option_fault.WordFault.TheVariants as word
-use Rattle.server_words.specs.Numbers.{number_in}
-use Rattle.server_words.specs.OptionWords.{number_of, value_of}
-use Rattle.server_words.specs.Words.{LetterGiven}
-use Rattle.server_words.specs.declared.limits.ConnectionLimits.{ConnectionLimits}
+use Rattle.server_words.specs.declared.server_options.ConnectionLimits.{ConnectionLimits}
+use Rattle.server_words.specs.OptionWords.{NumberOption, has_bad, number_of, number_option}
 use Rattle.server_words.specs.Options.{letter}
+use Rattle.server_words.specs.Words.{LetterGiven}
 
--- what follows a result that is no fault
-abbrev pub and_then : {A B E : Type 0} → Result A E → (A → Result B E) → Result B E
-and_then (Ok a) next = next a
-and_then (Err e) next = Err e
+-- `-c`: how many connections at once
+abbrev pub connections_option : NumberOption
+connections_option = number_option (letter (codes "c")) 1 10000
 
--- a number that was found, or else that `-k` has a bad one
-abbrev pub counted : Option ℕ → Result (Option ℕ) WordFault
-counted (Some n) = Ok (Some n)
-counted None = Err (word.BadNumber (letter (codes "k")))
+-- `-k`: how many connections in all
+abbrev pub count_option : NumberOption
+count_option = number_option (letter (codes "k")) 1 4294967295
 
-abbrev pub count_by : Option (List ℕ) → Result (Option ℕ) WordFault
-count_by None = Ok None
-count_by (Some text) = counted (number_in text 1 4294967295)
+-- `-m`: how many at once from one address
+abbrev pub per_address_option : NumberOption
+per_address_option = number_option (letter (codes "m")) 1 10000
 
--- `-k`: how many connections in all; without it there is no end
-abbrev pub count_in : List LetterGiven → Result (Option ℕ) WordFault
-count_in options = count_by (value_of options (letter (codes "k")))
+-- all options with a number, in the order in which their faults count
+abbrev pub numbers : List NumberOption
+numbers = connections_option ∷ count_option ∷ per_address_option ∷ []
 
--- `-c`: how many connections at once; without it 40
-abbrev pub connections_in : List LetterGiven → Result ℕ WordFault
-connections_in options = number_of options (letter (codes "c")) 1 10000 40
+-- without `-c` 40
+abbrev pub connections_in : List LetterGiven → ℕ
+connections_in options = unwrap_or (number_of options connections_option) 40
 
--- `-m`: how many at once from one address; without it as many as at once
-abbrev pub per_address_in : List LetterGiven → ℕ → Result ℕ WordFault
-per_address_in options connections = number_of options (letter (codes "m")) 1 10000 connections
+-- without `-m` as many as at once; without `-k` there is no end
+abbrev pub limits_given : List LetterGiven → ConnectionLimits
+limits_given options = record {
+  connections = connections_in options;
+  per_address = unwrap_or (number_of options per_address_option) (connections_in options);
+  count = number_of options count_option;
+}
 
--- all three, of which the first bad one counts: `-c`, then `-k`, then `-m`
+-- the limits, unless this number is bad
+abbrev pub limits_by : Option NumberOption → List LetterGiven → Result ConnectionLimits WordFault
+limits_by (Some bad) options = Err (word.BadNumber bad.letter)
+limits_by None options = Ok (limits_given options)
+
+-- the limits that options ask for, or the fault of the first of the numbers that is bad
 abbrev pub limits_in : List LetterGiven → Result ConnectionLimits WordFault
-limits_in options =
-    and_then (connections_in options) (λ connections.
-    and_then (count_in options) (λ count.
-    and_then (per_address_in options connections) (λ per_address.
-    Ok (record { connections = connections; per_address = per_address; count = count }))))
+limits_in options = limits_by (find (has_bad options) numbers) options

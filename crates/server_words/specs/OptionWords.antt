@@ -1,6 +1,5 @@
 -- What the options given say. Of an option that is given more than once the last counts.
-use Rattle.std.specs.Prelude.{ℕ, ◌==◌, Bool, List, reverse, Option, Result, Ok, option_map, option_and_then, find}
-use Rattle.std.specs.Option.{ok_or, option_map_or}
+use Rattle.std.specs.Prelude.{◌≡◌, ℕ, ◌==◌, ◌&&◌, Bool, List, reverse, Option, is_some, is_none, option_map, option_and_then, find, true, false}
 use Rattle.std.specs.List.{list_any}
 use Rattle.std.specs.Borrow.{Bor}
 use Rattle.server_words.specs.declared.option_fault.WordFault.{WordFault}
@@ -34,7 +33,28 @@ abbrev pub last_of : List LetterGiven → List ℕ → Option ℕ
 last_of options letters =
     option_map (λ (g : LetterGiven). g.letter) (find (λ (g : LetterGiven). list_any (λ letter. letter == g.letter) letters) (reverse options))
 
--- the number that a letter's value is, or the letter's fault; where it has no value, the number that stands for none
-abbrev pub number_of : List LetterGiven → ℕ → ℕ → ℕ → ℕ → Result ℕ WordFault
-number_of options letter least greatest default =
-    option_map_or (λ text. ok_or (number_in text least greatest) (fault.BadNumber letter)) (value_of options letter) (Ok default)
+-- an option with a number: its letter, and the least and the greatest number
+pub record NumberOption : Type 0 where
+  pub letter : ℕ
+  pub least : ℕ
+  pub greatest : ℕ
+
+abbrev pub number_option : ℕ → ℕ → ℕ → NumberOption
+number_option letter least greatest = record { letter = letter; least = least; greatest = greatest }
+
+-- the number of such an option, where its value is one in the range
+abbrev pub number_of : List LetterGiven → NumberOption → Option ℕ
+number_of options option =
+    option_and_then (λ text. number_in text option.least option.greatest) (value_of options option.letter)
+
+-- its value is no number in the range
+abbrev pub has_bad : List LetterGiven → NumberOption → Bool
+has_bad options option = is_some (value_of options option.letter) && is_none (number_of options option)
+
+-- what is read of such an option: its number, where that is not bad
+abbrev pub IsNumberOf : List LetterGiven → NumberOption → Option ℕ → Type 0
+IsNumberOf options option number = (has_bad options option ≡ false) × (number ≡ number_of options option)
+
+-- or the fault that it is
+abbrev pub IsBadBy : List LetterGiven → NumberOption → WordFault → Type 0
+IsBadBy options option f = (has_bad options option ≡ true) × (f ≡ fault.BadNumber option.letter)

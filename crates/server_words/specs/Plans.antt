@@ -3,14 +3,14 @@ use Rattle.std.specs.Prelude.{◌≡◌, ℕ, ◌==◌, Bool, not, List, [], Opt
 use Rattle.server_words.specs.declared.option_fault.WordFault.{WordFault}
 use Rattle.server_words.specs.OptionWords.{is_given, last_of, value_of}
 use Rattle.server_words.specs.Words.{LetterGiven, Reading, reading}
-use Rattle.server_words.specs.declared.letter.TheConstants.{TCPSERVER_LETTERS}
+use Rattle.server_words.specs.declared.server_options.TheConstants.{TCPSERVER_LETTERS}
 use Rattle.rule_lookup.specs.declared.decision.WhenMissing.{WhenMissing}
 use Rattle.rule_lookup.specs.declared.decision.WhenMissing.TheVariants.{Allow, Deny}
 use Rattle.server_words.specs.declared.fault.ServerWordsFault.{ServerWordsFault}
 use Rattle.server_words.specs.declared.fault.ServerWordsFault.TheVariants as fault
 use Rattle.server_words.specs.declared.level.Level.{Level}
 use Rattle.server_words.specs.declared.level.Level.TheVariants.{Quiet, Errors, All}
-use Rattle.server_words.specs.declared.limits.ConnectionLimits.{ConnectionLimits}
+use Rattle.server_words.specs.declared.server_options.ConnectionLimits.{ConnectionLimits}
 use Rattle.server_words.specs.declared.mode.Mode.{Mode}
 use Rattle.server_words.specs.Faults.{fault_of_word}
 use Rattle.server_words.specs.Limits.{limits_in}

@@ -4,10 +4,6 @@ ghost use Rattle.std.specs.Char.{encode_utf8};
 ghost use Rattle.std.specs.Str.{chars};
 ghost use Rattle.server_words.specs.Letters.{is_mark, listed_as, marked_by, meaning_of};
 
-/// The letters of `tcpserver`: one followed by `:` takes a value, one followed by `!` is not in this profile, which is to say
-/// that the original program has it and this one refuses it.
-pub const TCPSERVER_LETTERS: &str = "vQq1c:k:m:x:XB:l:N:hHpPsSw:ROodDt:b:r!u!g!U!";
-
 /// What a character is as an option.
 #[derive(Clone, Copy)]
 pub enum Meaning {

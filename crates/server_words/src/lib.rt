@@ -11,7 +11,6 @@ pub mod fault;
 pub mod laws;
 pub mod letter;
 pub mod level;
-pub mod limits;
 pub mod mode;
 pub mod number;
 pub mod operands;
@@ -19,18 +18,21 @@ pub mod option_fault;
 pub mod option_laws;
 pub mod option_words;
 pub mod options;
+pub mod server_options;
 pub mod words;
 pub mod wrapping;
 
 pub use fault::ServerWordsFault;
-pub use letter::{Meaning, TCPSERVER_LETTERS};
+pub use letter::Meaning;
 pub use level::Level;
-pub use limits::ConnectionLimits;
 pub use mode::Mode;
 pub use number::number_in;
 pub use operands::{Operands, address_of, port_of};
 pub use option_fault::WordFault;
 pub use option_words::read_words;
 pub use options::{OptionGiven, Options};
+pub use server_options::{
+    ConnectionLimits, HEARD_LETTERS, NUMBERS_HINT, OPTIONS, TCPSERVER_LETTERS,
+};
 pub use words::{ServerWords, read_server_words};
 pub use wrapping::{LineWrapperName, Wrapping};

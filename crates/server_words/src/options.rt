@@ -1,8 +1,8 @@
 //! Options that were given.
-ghost use Rattle.std.specs.Prelude.{◌≡◌, ◌++◌, ◌∷◌, [], map, option_map, OnOk, OnErr};
+ghost use Rattle.std.specs.Prelude.{◌≡◌, ◌++◌, ◌∷◌, [], map, option_map, IfErr, IfOk, OnOk, OnErr};
 ghost use Rattle.std.specs.Borrow.{Bor};
 ghost use Rattle.server_words.specs.declared.options.OptionGiven.{OptionGiven};
-ghost use Rattle.server_words.specs.OptionWords.{text_of, letter_of, last_given, value_of, is_given, last_of, number_of};
+ghost use Rattle.server_words.specs.OptionWords.{text_of, letter_of, last_given, value_of, is_given, last_of, number_option, IsNumberOf, IsBadBy};
 
 use crate::number::number_in;
 use crate::option_fault::WordFault;
@@ -74,21 +74,19 @@ impl<'a> Options<'a> {
         last_of(self.given.as_slice(), letters)
     }
 
-    /// The number that a letter's value is, from `least` to `greatest`, or `default` where the letter has no value. A value that
-    /// is no such number is `BadNumber` with the letter.
-    pub fn number(
-        &self,
-        letter: char,
-        least: u64,
-        greatest: u64,
-        default: u64,
-    ) -> Result<u64, WordFault>
-        ensures { result ≡ number_of self.now letter least greatest default }
+    /// The number that a letter's value is, from `least` to `greatest`; `None` where the letter has no value. A value that is no
+    /// such number is `BadNumber` with the letter.
+    pub fn number(&self, letter: char, least: u64, greatest: u64) -> Result<Option<u64>, WordFault>
+        ensures read { IfOk result (IsNumberOf self.now (number_option letter least greatest)) }
+        ensures refused { IfErr result (IsBadBy self.now (number_option letter least greatest)) }
     {
         let Some(text) = self.value(letter) else {
-            return Ok(default);
+            return Ok(None);
         };
-        number_in(text, least, greatest).ok_or(WordFault::BadNumber(letter))
+        match number_in(text, least, greatest) {
+            None => Err(WordFault::BadNumber(letter)),
+            number => Ok(number),
+        }
     }
 }
 

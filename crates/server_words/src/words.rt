@@ -8,12 +8,11 @@ ghost use Rattle.server_words.specs.Plans.{RefusesPlan, missing_of, options_in, 
 
 use crate::fault::ServerWordsFault;
 use crate::level::Level;
-use crate::limits::ConnectionLimits;
 use crate::mode::Mode;
 use crate::operands::Operands;
 use crate::option_laws::by_the_rules;
 use crate::wrapping::Wrapping;
-use crate::{Options, TCPSERVER_LETTERS, WordFault, read_words};
+use crate::{ConnectionLimits, Options, TCPSERVER_LETTERS, WordFault, read_words};
 use rule_lookup::WhenMissing;
 use std::alloc::Global;
 use std::marker::Model;

@@ -275,6 +275,7 @@ fn service(asked: Asked) -> Service<'static> {
             connections: asked.limit,
             per_address: asked.per_address,
             count: asked.count,
+            ..ConnectionLimits::DEFAULT
         },
         names: HostNames {
             hosts: None,

@@ -12,7 +12,7 @@ use Rattle.server_words.specs.declared.level.Level.TheVariants.{Errors, All}
 use Rattle.stream_tools.specs.Programs.{texts_of}
 use Rattle.ucspi_tools.specs.declared.choice.ToolChoice.{ToolChoice}
 use Rattle.ucspi_tools.specs.declared.choice.ToolChoice.TheVariants as choice
-use Rattle.fault_hints.specs.declared.words.TheConstants.{OPTIONS}
+use Rattle.server_words.specs.declared.server_options.TheConstants.{OPTIONS}
 use Rattle.ucspi_tools.specs.declared.tool.TheConstants.{CHECK_WORDS, FILTER_WORDS, PROGRAM_WORDS, RULES_WORDS, SCRIPT_WORDS}
 use Rattle.ucspi_tools.specs.declared.tool.Tool.{Tool}
 use Rattle.ucspi_tools.specs.declared.tool.Tool.TheVariants.{Tcpserver, Rulesim, Tcprules, Tcprulescheck, Addcr, Delcr, Fixcrio, Recordio}

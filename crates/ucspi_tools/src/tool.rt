@@ -2,7 +2,7 @@
 ghost use Rattle.std.specs.Prelude.{◌≡◌, bytes_eq};
 ghost use Rattle.ucspi_tools.specs.Choices.{name_of, passing, purpose_text, tool_of, usage_text, words_text};
 
-use fault_hints::OPTIONS;
+use server_words::OPTIONS;
 
 /// The words of `tcprules`, a line each.
 pub const RULES_WORDS: &str = "\
