@@ -1,6 +1,5 @@
 -- A server's calls, over the directory as others left it, are its steps by itself.
 use Rattle.std.proofs.Common.{◌≡◌, true, List, Option, None, refl, sym, ap, subst, ◌∙◌}
-use Rattle.dir_calls.specs.Directory.{Directory}
 use Rattle.dir_calls.specs.declared.phase.Phase.{Phase}
 use Rattle.server_events.specs.Processes.{of_connections, is_connections, of_server}
 use Rattle.server_events.specs.ServerState.{Effect, ServerState, lets_in, opens, decides, brings, lets_go, comes_to, fails_at, ends_all, effect}
@@ -52,8 +51,3 @@ by_itself w y z files more event own at leads =
       },
       subst (λ (x : World). Matches (over z w.directory) more x) same next.2,
     )
-
--- a call that leaves its yard's directory as it is, and leads on over each, leads on over its own
-pub over_own : (leads : YardState → YardState → Type 0) (y z : YardState) → z.directory ≡ y.directory
-    → ((d : Directory) → leads (over y d) (over z d)) → leads y z
-over_own leads y z same beside = subst (λ (d : Directory). leads y (over z d)) (sym same) (beside y.directory)

@@ -18,13 +18,13 @@ use Rattle.server_yard.specs.Installed.{KeepsHistory, IsWholeFile, installs_of}
 use Rattle.server_yard.specs.Passes.{trust_in}
 use Rattle.server_yard.specs.Rolls.{IsQuiet, Notes, Roll}
 use Rattle.server_yard.specs.Seating.{goes_on, goes_on_by, leaver, leaver_by}
+use Rattle.server_yard.specs.Serving.{with_roll}
 use Rattle.server_yard.specs.Standing.{YardState}
-use Rattle.server_yard.specs.Yards.{IsSameBeside, IsSameButDirectory, yard_over, yard_roll}
+use Rattle.server_yard.specs.Yards.{IsSameBeside, yard_roll, yard_state}
 use Rattle.server_yard.specs.declared.yard.Yard.{Yard}
 use Rattle.server_yard.proofs.Histories.{OneMore, history_on, history_same}
 use Rattle.server_yard.proofs.Installs.{installed_same, installs-other, reached_by}
 use Rattle.server_events.proofs.WovenSteps.{phase_stays}
-use Rattle.server_yard.proofs.Matching.{GoesTo, is_plain, plain_by}
 
 other_by : (x : Effect) → of_connections x ≡ true → of_installations x ≡ false
 other_by (lets_in m peer) k = refl
@@ -65,19 +65,6 @@ leaver_one ends_all n k = absurd (cc)
 pub leaver_own : (e : Event) (n : ℕ) → leaver e ≡ Some n → is_connections e ≡ true
 leaver_own e n k = leaver_one (effect e) n k
 
-leaver_plainly : (x : Effect) (n : ℕ) → leaver_by x ≡ Some n → plain_by x ≡ true
-leaver_plainly (lets_in m peer) n k = refl
-leaver_plainly (opens m there) n k = absurd (cc)
-leaver_plainly (decides m decision) n k = absurd (cc)
-leaver_plainly (brings m from to) n k = refl
-leaver_plainly (lets_go m from) n k = refl
-leaver_plainly (comes_to phase) n k = absurd (cc)
-leaver_plainly (fails_at phase) n k = absurd (cc)
-leaver_plainly ends_all n k = absurd (cc)
-
-pub leaver_plain : (e : Event) (n : ℕ) → leaver e ≡ Some n → is_plain e ≡ true
-leaver_plain e n k = leaver_plainly (effect e) n k
-
 -- what is noted is one event more
 pub one_more_of : (e : Event) (old new : Roll) → old.server.limit < 2 ^ 64 → FitsSerial e → Notes e old new
     → OneMore old.books old.server e old.speaker new.books new.server
@@ -101,22 +88,11 @@ kept_on {b} {b'} {y} {y'} {e} {caller} own l same r i more k = record {
   installed = installed_same l same r (ap (λ (u : ServerState). u.phase) more.happens ∙ phase_stays y.server e own) i (installs-other k.history e (own_other e own)) k.installed;
 }
 
--- a yard that noted an event of a connection, and is the same beside, over any directory
-pub goes_over : {L D F : Type 0} {p : _} {l : _} {d : _} (directory : Directory) (e : Event) (old new : Yard L D F p l d)
-    → Notes e (yard_roll old) (yard_roll new) → IsSameBeside old new → GoesTo (yard_over directory old) (yard_over directory new) e
-goes_over directory e old new noted same = record {
-  may = noted.may;
-  happens = noted.happens;
-  directory = refl;
-  rules = same.rules;
-  installing = same.installing;
-}
-
--- a yard that is the same but for its directory is so over any directory
-pub same_over : {L D F : Type 0} {p : _} {l : _} {d : _} (directory : Directory) (old new : Yard L D F p l d)
-    → yard_roll new ≡ yard_roll old → IsSameButDirectory old new → yard_over directory new ≡ yard_over directory old
-same_over directory old new roll same = λ i.
-    let y : YardState = record { directory = directory; rules = same.rules i; server = (roll i).server; installing = same.installing i } in y
+-- a yard that is the same beside its events is so over its directory
+pub own_then : {L D F : Type 0} {p : _} {l : _} {d : _} (old new : Yard L D F p l d) → IsSameBeside old new
+    → yard_state new ≡ with_roll (yard_state old) (yard_roll new)
+own_then {l = l} old new same = λ i.
+    let y : YardState = record { directory = l.state (same.directory i); rules = same.rules i; server = (yard_roll new).server; installing = same.installing i } in y
 
 -- what stands under the rules name is compiled of rules, or nothing
 whole_of : (text : Option (List Rule)) (bytes : Option (List ℕ)) → StandsFor text bytes → IsWholeFile bytes

@@ -1,11 +1,13 @@
 -- One connection that is served by a yard, event by event.
-use Rattle.std.specs.Prelude.{ℕ, List, [], ◌∷◌, Option, is_some}
+use Rattle.std.specs.Prelude.{ℕ, Bool, true, false, List, [], ◌∷◌, Option, is_some}
 use Rattle.rule_lookup.specs.declared.decision.Decision.{Decision}
 use Rattle.server_events.specs.declared.event.Event.{Event}
 use Rattle.server_events.specs.declared.event.Event.TheVariants.{Opened, Decided}
 use Rattle.dir_calls.specs.Directory.{Directory}
 use Rattle.server_events.specs.Processes.{ServerSteps, of_server}
+use Rattle.server_events.specs.ServerState.{Effect, lets_in, brings, lets_go, effect}
 use Rattle.server_events.specs.Worlds.{KeptFile, World}
+use Rattle.server_yard.specs.Rolls.{Roll}
 use Rattle.server_yard.specs.Standing.{IsReachedBy, LeadsDecided, LeadsOn, LeadsOpened, Matches, YardState}
 
 -- The calls that serve a connection from its admission on, each by its event. It is given up at once; or it opens the
@@ -26,6 +28,20 @@ IsReachedOn history y = (files : List KeptFile) × IsReachedBy history y files
 -- the same yard over another directory
 abbrev pub over : YardState → Directory → YardState
 over y d = record y { directory = d }
+
+-- the same yard with the state that a roll has
+abbrev pub with_roll : YardState → Roll → YardState
+with_roll y roll = record y { server = roll.server }
+
+abbrev pub plain_by : Effect → Bool
+plain_by (lets_in n peer) = true
+plain_by (brings n from to) = true
+plain_by (lets_go n from) = true
+plain_by _ = false
+
+-- an event of a connection by which it neither opens the rules nor is decided
+abbrev pub is_plain : Event → Bool
+is_plain event = plain_by (effect event)
 
 -- What a server has of a world that it shares with installers is its yard's, over the directory as it is now.
 abbrev pub IsServers : YardState → List KeptFile → World → Type 0

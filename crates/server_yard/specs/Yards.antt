@@ -26,13 +26,9 @@ name_of rules = option_map (λ r. r.name) rules
 
 -- a yard with this ledger, this directory and these files, and what their traits tell of them
 module _ {L D F : Type 0} {p : assumptions.Ghosts L} {d : dir.Ghosts D F} {f : file.Ghosts F} where
-  -- what a yard has of a world over a directory, as others left it
-  abbrev pub yard_over : Directory → Yard L D F p d f → YardState
-  yard_over directory y = state_of y.register directory y.rules y.installation
-
-  -- the same over the yard's own directory
+  -- what a yard has of a world
   abbrev pub yard_state : Yard L D F p d f → YardState
-  yard_state y = yard_over (d.state y.dir) y
+  yard_state y = state_of y.register (d.state y.dir) y.rules y.installation
 
   -- what its events change
   abbrev pub yard_roll : Yard L D F p d f → Roll

@@ -1,20 +1,24 @@
 //! Laws of the definitions alone.
-ghost use Rattle.std.specs.Prelude.{◌≡◌, ◌++◌, ℕ, List, [], Option, Some, length, true};
-ghost use Rattle.dir_calls.specs.Directory.{Directory};
+ghost use Rattle.std.specs.Prelude.{◌≡◌, ◌++◌, ℕ, List, [], Ok, Option, Some, is_some, length, option_map, true};
+ghost use Rattle.cdb_files.specs.Reading.{reading};
 ghost use Rattle.server_events.specs.Journals.{Books};
+ghost use Rattle.rule_lookup.specs.Decisions.{decision_from};
 ghost use Rattle.rule_lookup.specs.Pairs.{Rule};
+ghost use Rattle.rule_lookup.specs.Peers.{Client};
 ghost use Rattle.rule_lookup.specs.declared.decision.Decision.{Decision};
 ghost use Rattle.rule_lookup.specs.declared.decision.WhenMissing.{WhenMissing};
 ghost use Rattle.server_events.specs.Headline.{Reaches};
 ghost use Rattle.server_events.specs.Processes.{Woven, is_connections};
 ghost use Rattle.server_events.specs.ServerState.{ServerState, start};
 ghost use Rattle.server_events.specs.Table.{HasStage};
-ghost use Rattle.server_events.specs.Worlds.{KeptFile, World};
+ghost use Rattle.server_events.specs.Worlds.{KeptFile, World, missing_by, peer_of};
 ghost use Rattle.server_events.specs.declared.event.Event.{Event};
+ghost use Rattle.server_events.specs.declared.event.Event.TheVariants.{Decided, Opened};
 ghost use Rattle.server_events.specs.declared.event.Stage.TheVariants as Stage;
 ghost use Rattle.server_yard.specs.Readers.{IsAbsentOrCompiled, KeptYard, NamesStoredSinceDone, begun_in};
+ghost use Rattle.server_yard.specs.Rolls.{Notes, Roll};
 ghost use Rattle.server_yard.specs.Runs.{AreByFound, BeginsRun, Found, InOrderOfFinding, IsPlayedOut, IsRun};
-ghost use Rattle.server_yard.specs.Serving.{IsReachedOn, IsServers, Serves, StepsByItself, over};
+ghost use Rattle.server_yard.specs.Serving.{IsReachedOn, IsServers, Serves, StepsByItself, is_plain, over, with_roll};
 ghost use Rattle.server_yard.specs.Standing.{IsNew, IsReachedBy, Leads, LeadsDecided, LeadsOn, LeadsOpened, Series, YardState, standing_of};
 ghost use Rattle.server_yard.specs.Telling.{AreApart, ToldLater};
 
@@ -45,26 +49,29 @@ pub fn beside()
         → StepsByItself w event z more }
 {}
 
-/// A call that leads on over whatever directory others left leads on over the yard's own, if it leaves that as it is.
+/// Each event of a connection that a yard notes is a step of the headline, over whatever directory others left.
 ///
-/// So each call with the clauses `beside` and `same` is a step of the headline in its yard's own world.
-pub fn own_directory()
-    ensures plain { (y z : YardState) (event : Event) → z.directory ≡ y.directory
-        → ((d : Directory) → LeadsOn event (over y d) (over z d)) → LeadsOn event y z }
-    ensures opened { (y z : YardState) (n : ℕ) (bytes : Option (List ℕ)) → z.directory ≡ y.directory
-        → ((d : Directory) → bytes ≡ standing_of (over y d) → LeadsOpened n bytes (over y d) (over z d))
-        → bytes ≡ standing_of y → LeadsOpened n bytes y z }
-    ensures decided { (y z : YardState) (n : ℕ) (bytes : Option (List ℕ)) (decision : Decision)
-        → z.directory ≡ y.directory
-        → ((d : Directory) → LeadsDecided n bytes decision (over y d) (over z d)) → LeadsDecided n bytes decision y z }
+/// By a call's clause `noted` its event is noted between the yard's rolls before and after it, and by `same` the yard has
+/// the same rules and installation. So with these rolls `y` is the yard before and after the call: over any directory, as
+/// others left it, or over its own if that is the same. An opening has to find what stands there. A decision has to be by
+/// what its connection keeps, for its peer: `Yard::decided` requires that, as far as files are honest.
+pub fn noted_leads()
+    ensures plain { (y : YardState) (event : Event) (old new : Roll) → is_plain event ≡ true → Notes event old new
+        → LeadsOn event (with_roll y old) (with_roll y new) }
+    ensures opened { (y : YardState) (n : ℕ) (bytes : Option (List ℕ)) (old new : Roll) → bytes ≡ standing_of y
+        → Notes (Opened n (is_some bytes)) old new → LeadsOpened n bytes (with_roll y old) (with_roll y new) }
+    ensures decided { (y : YardState) (n : ℕ) (bytes : Option (List ℕ)) (decision : Decision) (peer : Client)
+        (old new : Roll) → peer_of n old.server.connections ≡ Some peer
+        → decision_from (option_map reading bytes) (missing_by y.rules) peer ≡ Ok decision
+        → Notes (Decided n decision) old new → LeadsDecided n bytes decision (with_roll y old) (with_roll y new) }
 {}
 
 /// An opening that takes some time is as good as one at a moment of its call.
 ///
 /// It is made by `Yard::open`, or by a handle of the connection's own. Others go on meanwhile, and the yard's other
-/// connections too. It found what stood at that moment, and the yard is told of it later (clause `beside` of
-/// `Yard::open` and `Yard::opened`). All is as if it had opened the rules at that moment, so the headline says that its
-/// decision is by the text that stood then.
+/// connections too. It found what stood at that moment, and the yard is told of it later (`noted_leads`: `opened`). All
+/// is as if it had opened the rules at that moment, so the headline says that its decision is by the text that stood
+/// then.
 pub fn told_later()
     ensures { (history events : List Event) (u w : World) (y z : YardState) (files : List KeptFile)
         (n : ℕ) (bytes : Option (List ℕ)) → Reaches history u

@@ -2,8 +2,9 @@
 //! another.
 //!
 //! Two kinds of calls tie code to the headline. `make_step` makes each step of an installation. Each call of `Yard` that
-//! is an event is one step of the headline's world over an honest directory (`step`), one event of the table over any
-//! directory (`noted`), and a step over whatever directory other processes left (`beside`).
+//! is an event is one event of the table over any directory (`noted`). It is also one step of the headline's world: over
+//! an honest directory if it calls that (`step`), and by an event of a connection over whatever directory other
+//! processes left (`laws::noted_leads`).
 //! The type keeps the rest, so a caller has no premise. `tcpserver` opens the rules outside the lock and uses `opened`.
 //! Only tests use `new`, and also `open`, `install_begin` and `install_step`, since `tcprules` is another process. The
 //! headline speaks of a yard that makes all of these calls. `tcp_service` says which thread makes which call.

@@ -2,7 +2,6 @@
 ghost use Rattle.std.specs.Prelude.{◌≡◌, ◌≢◌, ◌+◌, ◌<◌, ◌≤◌, ◌∷◌, ◌↔◌, ℕ, List, [], true, false, Err, Ok, Some, None, IsTrue, IfOk, IfErr, IfNone, IfSome, OnErr, Contains, is_some, length, option_map};
 ghost use Rattle.child_jobs.specs.Runs.{place_of};
 ghost use Rattle.child_jobs.specs.PlacesOut.{RefusesLimits};
-ghost use Rattle.dir_calls.specs.Directory.{Directory};
 ghost use Rattle.dir_calls.specs.Moments.{CountsFault};
 ghost use Rattle.server_events.specs.JournalParts.{books_of_journal};
 ghost use Rattle.server_events.specs.Journals.{HasSameRoom};
@@ -23,7 +22,7 @@ ghost use Rattle.server_yard.specs.Rolls.{CountsStored, IsQuiet, Lived, Notes, N
 ghost use Rattle.server_yard.specs.Rooms.{KeepsRoom};
 ghost use Rattle.server_yard.specs.Registers.{books_of, roll_of};
 ghost use Rattle.server_yard.specs.Seating.{GivesSeat, IsAddressFull, IsSpent, KeepsSeats, KeepsSerials, goes_on};
-ghost use Rattle.server_yard.specs.Standing.{BeginsWell, LeadsDecided, LeadsOn, LeadsOpened, LeadsSome, standing_of};
+ghost use Rattle.server_yard.specs.Standing.{BeginsWell, LeadsOpened, LeadsSome, standing_of};
 ghost use Rattle.server_yard.specs.Stepping.{GoesAsStep, HandsBack, IsRefusedAs, begin_event, event_of_step, kept_after_begin, kept_after_step, is_kept_after, is_of_disk, kept_then, last_begun_after, lists_after_begin};
 ghost use Rattle.server_yard.specs.Kept.{FindsItsFile, FindsItsFile-prop, HasNoEvents, IsKeptInstallation, installing_of, is_kept, phase_of, rules_of, state_of};
 ghost use Rattle.server_yard.specs.declared.register.AdmitFault.TheVariants.{Full, FullForAddress, Spent};
@@ -78,7 +77,7 @@ pub struct Yard<L: Assumptions, D: Dir + Drop> {
 }
 
 impl<L: Assumptions, D: Dir + Drop> Yard<L, D> {
-    ghost use Rattle.server_yard.specs.Yards.{HasRun, IsMade, IsSameBeside, IsSameButDirectory, LeavesNothingElse, MayBegin, kept_number, kept_under, last_begun, name_of, number_of, serial_of, stage_of_place, yard_books, yard_directory, yard_installing, yard_journal, yard_over, yard_roll, yard_rules, yard_seat, yard_server, yard_state};
+    ghost use Rattle.server_yard.specs.Yards.{HasRun, IsMade, IsSameBeside, IsSameButDirectory, LeavesNothingElse, MayBegin, kept_number, kept_under, last_begun, name_of, number_of, serial_of, stage_of_place, yard_books, yard_directory, yard_installing, yard_journal, yard_roll, yard_rules, yard_seat, yard_server, yard_state};
 
     /// A yard over a directory, without connections and without an installation under way.
     ///
@@ -248,9 +247,6 @@ impl<L: Assumptions, D: Dir + Drop> Yard<L, D> {
         ensures spent { (result ≡ Err Spent) ↔ IsSpent (yard_server self.old) }
         ensures full_for_address { (result ≡ Err FullForAddress) ↔ IsAddressFull peer.now.ip (yard_server self.old) }
         ensures noted { IfOk result (λ r. Notes (Admitted r.0 peer.now) (yard_roll self.old) (yard_roll self.new)) }
-        // over whatever directory others left, so over the yard's own
-        ensures beside { (d : Directory) → IfOk result (λ r. LeadsOn
-            (Admitted r.0 peer.now) (yard_over d self.old) (yard_over d self.new)) }
         ensures seat { IfOk result (λ r. GivesSeat r.1 r.0 (yard_seat self.old) (yard_seat self.new)) }
         ensures room { KeepsRoom (yard_roll self.old) (yard_roll self.new) }
         ensures same { IsSameBeside self.old self.new }
@@ -309,10 +305,6 @@ impl<L: Assumptions, D: Dir + Drop> Yard<L, D> {
             (Opened serial (is_some (pass_file pass))) (yard_roll self.old) (yard_roll self.new)) }
         ensures step { IsTrue D.honest → IfOk result (λ pass. LeadsOpened serial
             (pass_bytes D.File.bytes pass) (yard_state self.old) (yard_state self.new)) }
-        // and so over whatever directory others left
-        ensures beside { (d : Directory) → IfOk result (λ pass.
-            pass_bytes D.File.bytes pass ≡ standing_of (yard_over d self.old)
-            → LeadsOpened serial (pass_bytes D.File.bytes pass) (yard_over d self.old) (yard_over d self.new)) }
         ensures refused { OnErr result (IsQuiet (yard_roll self.old) (yard_roll self.new)) }
         ensures err_state { IsTrue D.honest → OnErr result (yard_state self.new ≡ yard_state self.old) }
         // a stop since then left what the headline's world may leave: an opening changes nothing
@@ -338,9 +330,6 @@ impl<L: Assumptions, D: Dir + Drop> Yard<L, D> {
         ensures missing { pass_missing result ≡ missing_by (yard_rules self.old) }
         ensures found { pass_file result ≡ finding_file finding }
         ensures noted { Notes (Opened serial (is_some (pass_file result))) (yard_roll self.old) (yard_roll self.new) }
-        // over whatever directory others left, so over the yard's own
-        ensures beside { (d : Directory) → pass_bytes D.File.bytes result ≡ standing_of (yard_over d self.old)
-            → LeadsOpened serial (pass_bytes D.File.bytes result) (yard_over d self.old) (yard_over d self.new) }
         ensures room { KeepsRoom (yard_roll self.old) (yard_roll self.new) }
         ensures same { IsSameBeside self.old self.new }
         ensures seats { KeepsSeats (yard_seat self.old) (yard_seat self.new) }
@@ -366,9 +355,6 @@ impl<L: Assumptions, D: Dir + Drop> Yard<L, D> {
         requires peer { peer_of (pass_serial pass) (yard_server self.old).connections ≡ Some peer.now }
         requires decides { IsDecidedBy D.File.honest D.File.sound D.File.bytes pass peer.now decision }
         ensures noted { Notes (Decided (pass_serial pass) decision) (yard_roll self.old) (yard_roll self.new) }
-        // over whatever directory others left, so over the yard's own
-        ensures beside { (d : Directory) → IsTrue D.File.honest → LeadsDecided (pass_serial pass)
-            (pass_bytes D.File.bytes pass) decision (yard_over d self.old) (yard_over d self.new) }
         ensures room { KeepsRoom (yard_roll self.old) (yard_roll self.new) }
         ensures same { IsSameBeside self.old self.new }
         ensures seats { KeepsSeats (yard_seat self.old) (yard_seat self.new) }
@@ -384,9 +370,6 @@ impl<L: Assumptions, D: Dir + Drop> Yard<L, D> {
         requires allowed { is_allowed (stage_of_place self.old (place_of running.now)) ≡ true }
         ensures noted { Notes
             (Started (number_of self.old (place_of running.now))) (yard_roll self.old) (yard_roll self.new) }
-        // over whatever directory others left, so over the yard's own
-        ensures beside { (d : Directory) → LeadsOn (Started (number_of self.old (place_of running.now)))
-            (yard_over d self.old) (yard_over d self.new) }
         ensures room { KeepsRoom (yard_roll self.old) (yard_roll self.new) }
         ensures same { IsSameBeside self.old self.new }
         ensures seats { KeepsSeats (yard_seat self.old) (yard_seat self.new) }
@@ -399,9 +382,6 @@ impl<L: Assumptions, D: Dir + Drop> Yard<L, D> {
     pub fn left(&mut self, place: Place<L>, leaving: Leaving)
         requires may { may_leave leaving (stage_of_place self.old place) ≡ true }
         ensures noted { Notes (leaving_event leaving (number_of self.old place)) (yard_roll self.old) (yard_roll self.new) }
-        // over whatever directory others left, so over the yard's own
-        ensures beside { (d : Directory) → LeadsOn (leaving_event leaving (number_of self.old place))
-            (yard_over d self.old) (yard_over d self.new) }
         ensures room { KeepsRoom (yard_roll self.old) (yard_roll self.new) }
         ensures same { IsSameBeside self.old self.new }
         ensures seats { KeepsSeats (yard_seat self.old) (yard_seat self.new) }
@@ -417,9 +397,6 @@ impl<L: Assumptions, D: Dir + Drop> Yard<L, D> {
         requires started { stage_of_place self.old (place_of running) ≡ Some stage.Started }
         ensures noted { Notes
             (Retired (number_of self.old (place_of running))) (yard_roll self.old) (yard_roll self.new) }
-        // over whatever directory others left, so over the yard's own
-        ensures beside { (d : Directory) → LeadsOn (Retired (number_of self.old (place_of running)))
-            (yard_over d self.old) (yard_over d self.new) }
         ensures room { KeepsRoom (yard_roll self.old) (yard_roll self.new) }
         ensures same { IsSameBeside self.old self.new }
         ensures seats { KeepsSeats (yard_seat self.old) (yard_seat self.new) }

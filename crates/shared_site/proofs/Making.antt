@@ -1,7 +1,6 @@
 -- What a turn makes of a yard, and what it leaves as it was.
-use Rattle.std.proofs.Common.{◌≡◌, ℕ, Bool, true, false, ap, inr, refl, subst, ◌∙◌}
-use Rattle.std.specs.Prelude.{⊤, None, Option, Some}
-use Rattle.dir_calls.specs.Directory.{Directory}
+use Rattle.std.proofs.Common.{◌≡◌, ℕ, Bool, true, ap, inr, refl, subst, ◌∙◌}
+use Rattle.std.specs.Prelude.{None, Option, Some}
 use Rattle.dir_calls.specs.declared.dir.Dir as dir
 use Rattle.dir_calls.specs.declared.rules_file.RulesFile as file
 use Rattle.server_events.specs.Journals.{one_more}
@@ -13,16 +12,15 @@ use Rattle.server_events.specs.Processes.{is_connections}
 use Rattle.server_yard.specs.Leavings.{leaving_event}
 use Rattle.server_yard.specs.Rolls.{Notes, Roll, number_at, stage_at}
 use Rattle.server_yard.specs.Seating.{KeepsSeats}
-use Rattle.server_yard.specs.Standing.{LeadsOn, YardState}
-use Rattle.server_yard.specs.Yards.{IsSameBeside, stage_of_place, yard_over, yard_roll, yard_seat}
+use Rattle.server_yard.specs.Yards.{IsSameBeside, stage_of_place, yard_roll, yard_seat}
 use Rattle.server_yard.specs.declared.assumptions.Assumptions as assumptions
 use Rattle.server_yard.specs.declared.leaving.Leaving.{Leaving}
 use Rattle.server_yard.specs.declared.leaving.Leaving.TheVariants.{StartFailed, Ended, Dropped}
 use Rattle.server_yard.specs.declared.yard.Yard.{Yard}
 use Rattle.shared_site.specs.Receipts.{CountsAtMostOne, receipt_after, receipt_at, receipt_of}
-use Rattle.shared_site.specs.Turns.{IsAt, IsLastOf, IsPassedOver, Makes, MakesBy, NotesAs, NotesBy, spoken_by}
+use Rattle.shared_site.specs.Turns.{IsAt, IsLastOf, IsPassedOver, Makes, NotesAs, NotesBy, spoken_by}
 use Rattle.shared_site.specs.declared.receipt.Made.{Made}
-use Rattle.shared_site.proofs.Spoken.{notes_from, spoken_over}
+use Rattle.shared_site.proofs.Spoken.{notes_from}
 
 -- what its event changes of the number of events, and what its evidence says
 pub counted : (who : ℕ) (event : Event) (old new : Roll) → NotesBy who event old new → CountsAtMostOne old.books.count new.books.count
@@ -57,15 +55,11 @@ beside_then old mid new spoken same = record {
 
 -- in turn: the caller spoke, and the yard made its call
 pub made_by : {L D F : Type 0} {p : assumptions.Ghosts L} {d : dir.Ghosts D F} {f : file.Ghosts F}
-    (who : ℕ) (event : Event) (leads : YardState → YardState → Type 0) (needs : Type 0)
-    (old mid new : Yard L D F p d f)
+    (who : ℕ) (event : Event) (old mid new : Yard L D F p d f)
     → IsPassedOver who old mid → Notes event (yard_roll mid) (yard_roll new)
-    → ((left : Directory) → needs → leads (yard_over left mid) (yard_over left new))
-    → IsSameBeside mid new → KeepsSeats (yard_seat mid) (yard_seat new) → MakesBy who event leads needs true old new
-made_by who event leads needs old mid new spoken noted beside same seats = record {
+    → IsSameBeside mid new → KeepsSeats (yard_seat mid) (yard_seat new) → Makes who event true old new
+made_by who event old mid new spoken noted same seats = record {
   noted = notes_from event event (yard_roll mid) (spoken_by who (yard_roll old)) (yard_roll new) refl spoken.roll noted;
-  beside = λ left met. subst (λ (s : YardState). leads s (yard_over left new))
-      (spoken_over who left old mid spoken.roll spoken.beside) (beside left met);
   out = tt;
   same = beside_then old mid new spoken.beside same;
   seats = λ i. seats i ∙ spoken.seats i;
@@ -75,24 +69,9 @@ made_by who event leads needs old mid new spoken noted beside same seats = recor
 pub made_own : {L D F : Type 0} {p : assumptions.Ghosts L} {d : dir.Ghosts D F} {f : file.Ghosts F}
     (who : ℕ) (event : ℕ → Event) (n serial : ℕ) (old mid new : Yard L D F p d f)
     → n ≡ serial → IsPassedOver who old mid → Notes (event n) (yard_roll mid) (yard_roll new)
-    → ((left : Directory) → LeadsOn (event n) (yard_over left mid) (yard_over left new))
     → IsSameBeside mid new → KeepsSeats (yard_seat mid) (yard_seat new) → Makes who (event serial) true old new
-made_own who event n serial old mid new own spoken noted beside same seats =
-    made_by who (event serial) (LeadsOn (event serial)) ⊤ old mid new spoken
-    (subst (λ (m : ℕ). Notes (event m) (yard_roll mid) (yard_roll new)) own noted)
-    (λ left _. subst (λ (m : ℕ). LeadsOn (event m) (yard_over left mid) (yard_over left new)) own (beside left)) same seats
-
--- out of turn
-pub passed : {L D F : Type 0} {p : assumptions.Ghosts L} {d : dir.Ghosts D F} {f : file.Ghosts F}
-    (who : ℕ) (event : Event) (leads : YardState → YardState → Type 0) (needs : Type 0) (old new : Yard L D F p d f)
-    → IsPassedOver who old new → MakesBy who event leads needs false old new
-passed who event leads needs old new spoken = record {
-  noted = tt;
-  beside = λ left met. tt;
-  out = spoken;
-  same = spoken.beside;
-  seats = spoken.seats;
-}
+made_own who event n serial old mid new own spoken noted same seats =
+    made_by who (event serial) old mid new spoken (subst (λ (m : ℕ). Notes (event m) (yard_roll mid) (yard_roll new)) own noted) same seats
 
 -- out of turn no event was noted
 pub stays : (who : ℕ) (old new : Roll) → new ≡ spoken_by who old → NotesAs who None old new

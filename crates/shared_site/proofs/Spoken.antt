@@ -1,9 +1,8 @@
 -- A turn is the yard's call, where its caller speaks.
 use Rattle.std.proofs.Common.{◌≡◌, ℕ, sym, subst}
-use Rattle.dir_calls.specs.Directory.{Directory}
 use Rattle.server_events.specs.declared.event.Event.{Event}
 use Rattle.server_yard.specs.Rolls.{Notes, Roll}
-use Rattle.server_yard.specs.Yards.{IsSameBeside, yard_over, yard_roll, yard_state}
+use Rattle.server_yard.specs.Yards.{IsSameBeside, yard_roll, yard_state}
 use Rattle.server_yard.specs.declared.yard.Yard.{Yard}
 use Rattle.shared_site.specs.Turns.{spoken_by}
 
@@ -13,13 +12,6 @@ pub spoken_state : {L D F : Type 0} {p : _} {l : _} {d : _} (who : ℕ)
     → yard_state mid ≡ yard_state old
 spoken_state {l = l} who old mid speaks same =
     λ i. record { directory = l.state (same.directory i); rules = same.rules i; server = (speaks i).server; installing = same.installing i }
-
--- the same over whatever directory others left
-pub spoken_over : {L D F : Type 0} {p : _} {l : _} {d : _} (who : ℕ) (left : Directory)
-    (old mid : Yard L D F p l d) → yard_roll mid ≡ spoken_by who (yard_roll old) → IsSameBeside old mid
-    → yard_over left mid ≡ yard_over left old
-spoken_over who left old mid speaks same =
-    λ i. record { directory = left; rules = same.rules i; server = (speaks i).server; installing = same.installing i }
 
 -- the same event, by what is equal
 pub notes_from : (e f : Event) (y x z : Roll) → f ≡ e → y ≡ x

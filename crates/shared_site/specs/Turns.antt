@@ -1,7 +1,6 @@
 -- What a turn does to a yard, and when its event is allowed.
-use Rattle.std.specs.Prelude.{⊤, ◌≡◌, ◌++◌, ◌∷◌, ℕ, Bool, true, List, [], Option, None, Some, Result, Ok, Err, IfNone, IfSome, is_some}
+use Rattle.std.specs.Prelude.{◌≡◌, ◌++◌, ◌∷◌, ℕ, Bool, true, List, [], Option, None, Some, Result, Ok, Err, IfNone, IfSome, is_some}
 use Rattle.std.specs.Bool.{OnFalse, OnTrue}
-use Rattle.dir_calls.specs.Directory.{Directory}
 use Rattle.dir_calls.specs.declared.dir.Dir as dir
 use Rattle.dir_calls.specs.declared.rules_file.RulesFile as file
 use Rattle.server_events.specs.Journals.{one_more}
@@ -16,8 +15,7 @@ use Rattle.server_events.specs.declared.event.Stage.TheVariants as stage
 use Rattle.server_yard.specs.Passes.{pass_file, pass_missing, pass_serial}
 use Rattle.server_yard.specs.Rolls.{IsQuiet, Notes, Roll}
 use Rattle.server_yard.specs.Seating.{KeepsSeats}
-use Rattle.server_yard.specs.Standing.{LeadsOn, LeadsOpened, YardState, standing_of}
-use Rattle.server_yard.specs.Yards.{IsSameBeside, number_of, stage_of_place, yard_books, yard_over, yard_roll, yard_rules, yard_seat, yard_server}
+use Rattle.server_yard.specs.Yards.{IsSameBeside, number_of, stage_of_place, yard_books, yard_roll, yard_rules, yard_seat, yard_server}
 use Rattle.server_yard.specs.declared.assumptions.Assumptions as assumptions
 use Rattle.server_yard.specs.declared.pass.Pass.{Pass}
 use Rattle.server_yard.specs.declared.yard.Yard.{Yard}
@@ -43,11 +41,6 @@ pub record IsLastOf (who : ℕ) (event : Event) (roll : Roll) : Type 0 where
   pub before : Roll
   pub noted : NotesBy who event before roll
 
--- a connection that opened the rules by a handle of its own, and found these bytes or no file, leads a yard on if that
--- stands there
-abbrev pub LeadsFound : ℕ → Option (List ℕ) → (old new : YardState) → Type 0
-LeadsFound serial bytes old new = bytes ≡ standing_of old → LeadsOpened serial bytes old new
-
 -- a yard with this ledger, this directory and these files, and what their traits tell of them
 module _ {L D F : Type 0} {p : assumptions.Ghosts L} {d : dir.Ghosts D F} {f : file.Ghosts F} where
   -- a turn of a caller gave this answer between these states of a yard, as it may by the numbers of events before and
@@ -63,20 +56,13 @@ module _ {L D F : Type 0} {p : assumptions.Ghosts L} {d : dir.Ghosts D F} {f : f
     pub seats : KeepsSeats (yard_seat old) (yard_seat new)
 
   -- A turn of a caller made this event, or it was out of turn and made none. An event that was made is noted as the
-  -- caller's. If what it needs holds, it leads the yard on in this way over whatever directory other processes left, so
-  -- over the yard's own. Out of turn nothing changed but the speaker. In turn or not, the yard is the same beside its
-  -- events, and so are all seats.
-  pub record MakesBy (who : ℕ) (event : Event) (leads : (old new : YardState) → Type 0) (needs : Type 0)
-      (was_made : Bool) (old new : Yard L D F p d f) : Type 0 where
+  -- caller's. Out of turn nothing changed but the speaker. In turn or not, the yard is the same beside its events, and
+  -- so are all seats.
+  pub record Makes (who : ℕ) (event : Event) (was_made : Bool) (old new : Yard L D F p d f) : Type 0 where
     pub noted : OnTrue was_made (NotesBy who event (yard_roll old) (yard_roll new))
-    pub beside : (left : Directory) → needs → OnTrue was_made (leads (yard_over left old) (yard_over left new))
     pub out : OnFalse was_made (IsPassedOver who old new)
     pub same : IsSameBeside old new
     pub seats : KeepsSeats (yard_seat old) (yard_seat new)
-
-  -- the same of an event that leads on whatever files connections keep, and needs nothing
-  abbrev pub Makes : (who : ℕ) → Event → (was_made : Bool) → (old new : Yard L D F p d f) → Type 0
-  Makes who event was_made old new = MakesBy who event (LeadsOn event) ⊤ was_made old new
 
   -- the connection at a place has this serial, and is in a stage that passes a test
   pub record IsAt (passes : Option Stage → Bool) (serial : ℕ) (yard : Yard L D F p d f) (place : ℕ) : Type 0 where

@@ -4,23 +4,21 @@
 //! or takes memory of its own.
 //!
 //! `in_turn` says when a turn's event is made, and `makes` all that the turn then does, or leaves as it was. Such an
-//! event is a step over whatever directory other processes left (`beside`).
-ghost use Rattle.std.specs.Prelude.{⊤, ◌≡◌, ◌↔◌, false, true, Bool, Err, None, Option, Some, IsTrue, IsOk, IfOk, IfSome, OnErr, OnOk, is_ok, is_some, length, option_map};
+//! event is a step over whatever directory other processes left (`server_yard::laws::noted_leads`).
+ghost use Rattle.std.specs.Prelude.{⊤, ◌≡◌, ◌↔◌, false, true, Bool, Err, None, Option, Some, IsTrue, IsOk, IfOk, IfSome, OnErr, OnOk, is_ok, is_some, length};
 ghost use Rattle.child_jobs.specs.Runs.{place_of};
-ghost use Rattle.dir_calls.specs.Directory.{Directory};
 ghost use Rattle.server_events.specs.ServerState.{is_admitted, is_allowed, is_started, stage_of};
 ghost use Rattle.server_events.specs.Worlds.{missing_by};
 ghost use Rattle.server_events.specs.declared.event.Event.TheVariants as event;
 ghost use Rattle.server_events.specs.declared.event.Stage.{Stage as StageOf};
 ghost use Rattle.server_yard.specs.Leavings.{leaving_event, may_leave};
-ghost use Rattle.server_yard.specs.Passes.{IsDecidedBy, finding_file, pass_bytes, pass_missing, pass_serial};
+ghost use Rattle.server_yard.specs.Passes.{IsDecidedBy, finding_file, pass_missing, pass_serial};
 ghost use Rattle.server_yard.specs.Rolls.{IsQuiet};
 ghost use Rattle.server_yard.specs.Seating.{GivesSeat, IsAddressFull, IsSpent, KeepsSerials};
-ghost use Rattle.server_yard.specs.Standing.{LeadsDecided, LeadsOn};
-ghost use Rattle.server_yard.specs.Yards.{IsSameBeside, yard_books, yard_over, yard_roll, yard_rules, yard_seat, yard_server};
+ghost use Rattle.server_yard.specs.Yards.{IsSameBeside, yard_books, yard_roll, yard_rules, yard_seat, yard_server};
 ghost use Rattle.server_yard.specs.declared.register.AdmitFault.TheVariants.{Full, FullForAddress, Spent};
 ghost use Rattle.shared_site.specs.Receipts.{AdmitsOrNot, CountsAtMostOne, MakesOrNot, refused_as};
-ghost use Rattle.shared_site.specs.Turns.{Answers, IsAt, IsPassedOver, LeadsFound, Makes, MakesBy, MayBeDecided, NotesAs, NotesBy, OpensBy, spoken_by, told_if_admitted, told_if_made, told_if_opened};
+ghost use Rattle.shared_site.specs.Turns.{Answers, IsAt, IsPassedOver, Makes, MayBeDecided, NotesAs, NotesBy, OpensBy, spoken_by, told_if_admitted, told_if_made, told_if_opened};
 
 use crate::ground::{Ground, YardOf};
 use crate::receipt::{EventSnapshot, Made, OutOfTurn, Refusal};
@@ -67,9 +65,6 @@ impl<G: Ground> Turn<G> for Admit<'_> {
             ↔ IsAddressFull self.entry.peer.now.ip (yard_server yard.old) }
         ensures noted { IfOk result (λ r. NotesBy
             caller (event.Admitted r.0 self.entry.peer.now) (yard_roll yard.old) (yard_roll yard.new)) }
-        // over whatever directory others left, so over the yard's own
-        ensures beside { (d : Directory) → IfOk result (λ r. LeadsOn
-            (event.Admitted r.0 self.entry.peer.now) (yard_over d yard.old) (yard_over d yard.new)) }
         ensures seat { IfOk result (λ r. GivesSeat r.1 r.0 (yard_seat yard.old) (yard_seat yard.new)) }
         ensures same { IsSameBeside yard.old yard.new }
         ensures refused { OnErr result (IsQuiet (spoken_by caller (yard_roll yard.old)) (yard_roll yard.new)) }
@@ -115,8 +110,7 @@ impl<G: Ground> Turn<G> for Opened<G> {
             (yard_roll yard.old) (yard_roll yard.new) }
         ensures in_turn { is_some result ≡ is_admitted (stage_of self.serial (yard_server yard.old).connections) }
         ensures missing { IfSome result (λ r. pass_missing r.0 ≡ missing_by (yard_rules yard.old)) }
-        ensures makes { MakesBy caller (event.Opened self.serial (is_some (finding_file self.finding)))
-            (LeadsFound self.serial (option_map G.File.bytes (finding_file self.finding))) ⊤
+        ensures makes { Makes caller (event.Opened self.serial (is_some (finding_file self.finding)))
             (is_some result) yard.old yard.new }
     {
         let Opened { serial, finding } = self;
@@ -164,10 +158,8 @@ impl<G: Ground> Turn<G> for Decided<'_, G> {
             (told_if_made (event.Decided (pass_serial self.entry.pass) self.entry.decision) result)
             (yard_roll yard.old) (yard_roll yard.new) }
         ensures in_turn { IsOk result ↔ MayBeDecided yard.old self.entry.pass self.entry.peer.now }
-        // over whatever directory others left, if files are honest
-        ensures makes { MakesBy caller (event.Decided (pass_serial self.entry.pass) self.entry.decision)
-            (LeadsDecided (pass_serial self.entry.pass) (pass_bytes G.File.bytes self.entry.pass) self.entry.decision)
-            (IsTrue G.File.honest) (is_ok result) yard.old yard.new }
+        ensures makes { Makes caller (event.Decided (pass_serial self.entry.pass) self.entry.decision)
+            (is_ok result) yard.old yard.new }
     {
         let (pass, peer, decision) = (self.pass, self.peer, self.decision);
         yard.speaker(caller);

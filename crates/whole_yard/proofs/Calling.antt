@@ -1,22 +1,23 @@
 -- What a call of a yard keeps and makes, after its caller spoke.
-use Rattle.std.proofs.Common.{◌≡◌, ◌<◌, ◌-◌, ◌^◌, ◌==◌, ℕ, refl, ap, subst, sym, ◌∙◌}
+use Rattle.std.proofs.Common.{◌≡◌, ◌<◌, ◌-◌, ◌^◌, ◌==◌, ℕ, true, refl, ap, subst, sym, ◌∙◌}
 use Rattle.std.specs.Prelude.{IfSome, IsTrue, None, Option, Result, Some, if◌then◌else◌, is_some, option_map}
 use Rattle.server_events.specs.Journals.{one_more}
 use Rattle.rules_install.specs.Installing.{Installing}
 use Rattle.dir_calls.specs.declared.phase.Phase.{Phase}
 use Rattle.rules_install.specs.declared.fault.InstallFault.{InstallFault}
 use Rattle.server_events.specs.declared.event.Event.{Event}
-use Rattle.dir_calls.specs.Directory.{Directory}
 use Rattle.server_yard.specs.Rolls.{Notes, NotesSome, Roll}
-use Rattle.server_yard.specs.Standing.{YardState}
+use Rattle.server_yard.specs.Serving.{is_plain, with_roll}
+use Rattle.server_yard.specs.Standing.{LeadsOn, YardState}
 use Rattle.server_yard.specs.Stepping.{event_of_step, step_event}
-use Rattle.server_yard.specs.Yards.{IsSameBeside, IsSameButDirectory, MayBegin, kept_under, last_begun, name_of, yard_over, yard_roll, yard_rules, yard_state}
+use Rattle.server_yard.specs.Yards.{IsSameBeside, IsSameButDirectory, MayBegin, kept_under, last_begun, name_of, yard_roll, yard_rules, yard_state}
 use Rattle.server_yard.specs.declared.yard.Yard.{Yard}
 use Rattle.shared_site.specs.Receipts.{CountsAtMostOne, receipt_after, receipt_at}
 use Rattle.shared_site.specs.Turns.{IsLastOf, spoken_by}
 use Rattle.shared_site.proofs.Counts.{one_counted, quiet_counted}
 use Rattle.shared_site.proofs.Making.{last_of}
-use Rattle.server_yard.proofs.Besides.{over_own}
+use Rattle.server_yard.proofs.Keeping.{own_then}
+use Rattle.server_yard.proofs.Matching.{plain_leads}
 use Rattle.whole_yard.specs.YardAgents.{MakesEvent}
 
 -- what a call keeps is as it was before its caller spoke
@@ -70,11 +71,18 @@ pub last_of_some : (who : ℕ) (event : Option Event) (old mid new : Roll)
 last_of_some who None old mid new speaks noted = tt
 last_of_some who (Some event) old mid new speaks noted = last_of who event event old mid new speaks noted refl
 
--- what a call makes that leaves the directory as it is, and leads on over whatever directory others left
-pub makes_beside : {L D F : Type 0} {p : _} {l : _} {d : _} (leads : YardState → YardState → Type 0) (event : Event)
+-- what a call makes that leaves its yard the same beside its event
+pub makes_then : {L D F : Type 0} {p : _} {l : _} {d : _} (leads : YardState → YardState → Type 0) (event : Event)
     (old new : Yard L D F p l d) → Notes event (yard_roll old) (yard_roll new) → IsSameBeside old new
-    → (IsTrue l.honest → (left : Directory) → leads (yard_over left old) (yard_over left new)) → MakesEvent leads event old new
-makes_beside {l = l} leads event old new noted same beside = record {
+    → (IsTrue l.honest → leads (yard_state old) (with_roll (yard_state old) (yard_roll new))) → MakesEvent leads event old new
+makes_then leads event old new noted same to = record {
   noted = noted;
-  step = λ honest. over_own leads (yard_state old) (yard_state new) (ap l.state same.directory) (beside honest);
+  step = λ honest. subst (λ (z : YardState). leads (yard_state old) z) (sym (own_then old new same)) (to honest);
 }
+
+-- the same by an event that neither opens the rules nor decides
+pub makes_plain : {L D F : Type 0} {p : _} {l : _} {d : _} (event : Event) (old new : Yard L D F p l d) → is_plain event ≡ true
+    → Notes event (yard_roll old) (yard_roll new) → IsSameBeside old new → MakesEvent (LeadsOn event) event old new
+makes_plain event old new plain noted same =
+    makes_then (LeadsOn event) event old new noted same
+    (λ honest. plain_leads (yard_state old) event (yard_roll old) (yard_roll new) plain noted)

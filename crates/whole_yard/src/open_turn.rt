@@ -1,7 +1,6 @@
 //! The turn by which the yard itself opens the rules for a connection. The server doesn't make it: there a connection
 //! opens them by a handle of its own (`shared_site::turns::Opened`).
 ghost use Rattle.std.specs.Prelude.{◌≡◌, ◌↔◌, false, Err, None, IsTrue, IfOk, OnErr, is_some};
-ghost use Rattle.dir_calls.specs.Directory.{Directory};
 ghost use Rattle.server_events.specs.ServerState.{is_admitted, stage_of};
 ghost use Rattle.server_events.specs.Worlds.{missing_by};
 ghost use Rattle.server_events.specs.declared.event.Event.TheVariants as event;
@@ -9,7 +8,7 @@ ghost use Rattle.server_yard.specs.Passes.{pass_bytes, pass_file, pass_missing};
 ghost use Rattle.server_yard.specs.Rolls.{IsQuiet};
 ghost use Rattle.server_yard.specs.Seating.{KeepsSeats};
 ghost use Rattle.server_yard.specs.Standing.{LeadsOpened, standing_of};
-ghost use Rattle.server_yard.specs.Yards.{IsSameButDirectory, LeavesNothingElse, yard_books, yard_directory, yard_over, yard_roll, yard_rules, yard_seat, yard_server, yard_state};
+ghost use Rattle.server_yard.specs.Yards.{IsSameButDirectory, LeavesNothingElse, yard_books, yard_directory, yard_roll, yard_rules, yard_seat, yard_server, yard_state};
 ghost use Rattle.shared_site.specs.Receipts.{CountsAtMostOne};
 ghost use Rattle.shared_site.specs.Turns.{IsPassedOver, NotesBy, spoken_by};
 ghost use Rattle.whole_yard.specs.YardTurns.{CountsDevice, OpensOrNot};
@@ -74,10 +73,6 @@ impl<G: Ground> Turn<G> for Open {
             caller (event.Opened self.serial (is_some (pass_file r.0))) (yard_roll yard.old) (yard_roll yard.new)) }
         ensures step { IsTrue G.Folder.honest → IfOk result (λ r. LeadsOpened self.serial
             (pass_bytes G.File.bytes r.0) (yard_state yard.old) (yard_state yard.new)) }
-        // and so over whatever directory others left
-        ensures beside { (d : Directory) → IfOk result (λ r.
-            pass_bytes G.File.bytes r.0 ≡ standing_of (yard_over d yard.old)
-            → LeadsOpened self.serial (pass_bytes G.File.bytes r.0) (yard_over d yard.old) (yard_over d yard.new)) }
         ensures out { result ≡ Err open_fault.OutOfTurn → IsPassedOver caller yard.old yard.new }
         ensures refused { OnErr result (IsQuiet (spoken_by caller (yard_roll yard.old)) (yard_roll yard.new)) }
         ensures err_state { IsTrue G.Folder.honest → OnErr result (yard_state yard.new ≡ yard_state yard.old) }

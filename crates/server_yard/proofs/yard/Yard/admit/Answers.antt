@@ -3,9 +3,8 @@ use mathlib.Core.Logic.{∥∥₁_map}
 use Rattle.server_events.specs.ServerState.{ServerState}
 use Rattle.server_events.specs.declared.event.Event.TheVariants as event
 use Rattle.server_yard.specs.Yards.{yard_roll}
-use Rattle.server_yard.proofs.Keeping.{admitted_or_not, if_ok, kept_on, kept_quiet, one_more_of}
+use Rattle.server_yard.proofs.Keeping.{admitted_or_not, kept_on, kept_quiet, one_more_of}
 use Rattle.server_events.proofs.WovenSteps.{phase_stays}
-use Rattle.server_yard.proofs.Matching.{plain_leads}
 use Rattle.server_yard.proofs.yard.Yard.admit.Goals as goal
 
 pub invariant_of-self : goal.invariant_of-self
@@ -21,8 +20,3 @@ invariant_of-self g c =
       installed = λ met. ∥∥₁_map (old.installed met) (λ k. ⊎_elim (λ x. kept_on refl c.admit.ensures.lists refl refl refl (one_more_of (event.Admitted x.0 peer) (yard_roll old) _ old.register.small x.2 x.1) k)
           (λ quiet. kept_quiet quiet.tells quiet.counts quiet.stores c.admit.ensures.lists quiet.stays refl refl refl k) way);
     }
-
-pub returns-clause-beside : goal.returns-clause-beside
-returns-clause-beside g c = λ d.
-    if_ok c.admit.result c.admit.ensures.noted (λ r noted. plain_leads _ _ (event.Admitted r.0 c.args.peer.now) refl refl
-    (record { may = noted.may; happens = noted.happens; directory = refl; rules = refl; installing = refl }))

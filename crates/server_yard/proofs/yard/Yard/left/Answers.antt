@@ -3,15 +3,12 @@ use mathlib.Core.Logic.{∥∥₁_map}
 use Rattle.server_events.specs.ServerState.{ServerState, may_happen}
 use Rattle.server_events.specs.declared.event.Event.{Event}
 use Rattle.server_events.proofs.WovenSteps.{phase_stays}
-use Rattle.server_yard.specs.Kept.{state_of}
 use Rattle.server_yard.specs.Leavings.{leaving_event}
 use Rattle.server_yard.specs.Rolls.{number_at}
 use Rattle.server_yard.specs.Seating.{leaver}
-use Rattle.server_yard.specs.Standing.{LeadsOn}
-use Rattle.server_yard.specs.Yards.{yard_over, yard_roll, yard_seat, yard_server}
-use Rattle.server_yard.proofs.Keeping.{kept_on, leaver_own, leaver_plain, one_more_of}
+use Rattle.server_yard.specs.Yards.{yard_roll, yard_seat, yard_server}
+use Rattle.server_yard.proofs.Keeping.{kept_on, leaver_own, one_more_of}
 use Rattle.server_yard.proofs.LeavingEvents.{leaves, may_go, seat_is}
-use Rattle.server_yard.proofs.Matching.{plain_leads}
 use Rattle.server_yard.proofs.Peopled.{leaver_fits}
 use Rattle.server_yard.proofs.yard.Yard.left.Goals as goal
 
@@ -44,15 +41,3 @@ invariant_of-self g c =
       finds = old.finds;
       installed = λ met. ∥∥₁_map (old.installed met) (λ k. kept_on own c.leave.ensures.lists refl refl refl (one_more_of e (yard_roll old) _ old.register.small fits noted) k);
     }
-
-pub returns-clause-beside : goal.returns-clause-beside
-returns-clause-beside g c = λ d.
-    let old = c.args.self.now in
-    let noted = c.leave.ensures.noted in
-    let e = c.event.result in
-    let n = c.number-serial.result in
-    let kind = ap leaver c.event.ensures ∙ leaves c.args.leaving n in
-    let its = c.number-serial.ensures ∙ ap (λ (i : ℕ). number_at (yard_seat old i)) c.index.ensures in
-    subst (λ (f : Event). LeadsOn f (yard_over d old) (state_of c.leave.new.self d old.rules old.installation)) (c.event.ensures ∙ ap (leaving_event c.args.leaving) its)
-    (plain_leads _ _ e (leaver_plain e n kind) (leaver_own e n kind)
-    (record { may = noted.may; happens = noted.happens; directory = refl; rules = refl; installing = refl }))

@@ -1,4 +1,4 @@
-use Rattle.std.proofs.Common.{◌≡◌, ◌⊎◌, ap, refl, sym, subst, ◌∙◌}
+use Rattle.std.proofs.Common.{◌≡◌, ◌⊎◌, Bool, ap, refl, sym, subst, ◌∙◌}
 use Rattle.std.specs.Prelude.{is_some, option_map}
 use Rattle.dir_calls.specs.Images.{IsImage}
 use Rattle.server_events.specs.Steps.{MayLeave}
@@ -8,9 +8,9 @@ use Rattle.server_yard.specs.Passes.{pass_bytes, pass_file}
 use Rattle.server_yard.specs.Rolls.{Notes, Roll}
 use Rattle.server_yard.specs.Rooms.{KeepsRoom}
 use Rattle.server_yard.specs.Standing.{LeadsOpened, YardState, standing_of}
-use Rattle.server_yard.specs.Yards.{yard_over, yard_roll, yard_state}
-use Rattle.server_yard.proofs.Besides.{over_own}
-use Rattle.server_yard.proofs.Keeping.{same_over}
+use Rattle.server_yard.specs.Yards.{yard_roll, yard_state}
+use Rattle.server_yard.proofs.Keeping.{is_some-map, own_then}
+use Rattle.server_yard.proofs.Matching.{opened_leads}
 use Rattle.server_yard.proofs.yard.Yard.open.Goals as goal
 
 pub returns-clause-missing : goal.returns-clause-missing
@@ -27,17 +27,15 @@ returns-clause-noted g c =
 pub returns-clause-step : goal.returns-clause-step
 returns-clause-step g c = λ honest.
     let mid = c.find.new.self in
+    let new = c.opened.new.self in
+    let n = c.args.serial in
+    let file = pass_file c.opened.result in
     let bytes = pass_bytes g.D.File.RulesFile.bytes c.opened.result in
-    subst (λ (y : YardState). bytes ≡ standing_of y → LeadsOpened c.args.serial bytes y (yard_state c.opened.new.self)) (c.find.ensures.state honest)
-    (over_own (λ y z. bytes ≡ standing_of y → LeadsOpened c.args.serial bytes y z) (yard_state mid) (yard_state c.opened.new.self)
-    (ap g.D.Dir.state c.opened.ensures.same.directory) c.opened.ensures.beside)
+    let noted = subst (λ (b : Bool). Notes (event.Opened n b) (yard_roll mid) (yard_roll new)) (sym (is_some-map g.D.File.RulesFile.bytes file)) c.opened.ensures.noted in
+    subst (λ (y : YardState). bytes ≡ standing_of y → LeadsOpened n bytes y (yard_state new)) (c.find.ensures.state honest)
+    (λ found. subst (λ (z : YardState). LeadsOpened n bytes (yard_state mid) z) (sym (own_then mid new c.opened.ensures.same))
+    (opened_leads (yard_state mid) n bytes (yard_roll mid) (yard_roll new) found noted))
     (returns-clause-found g c honest)
-
-pub returns-clause-beside : goal.returns-clause-beside
-returns-clause-beside g c = λ d.
-    let bytes = pass_bytes g.D.File.RulesFile.bytes c.opened.result in
-    subst (λ (y : YardState). bytes ≡ standing_of y → LeadsOpened c.args.serial bytes y (yard_over d c.opened.new.self))
-    (same_over d c.args.self.now c.find.new.self c.find.ensures.roll c.find.ensures.same) (c.opened.ensures.beside d)
 
 pub returns-clause-stops : goal.returns-clause-stops
 returns-clause-stops g c = λ honest files w image at left.

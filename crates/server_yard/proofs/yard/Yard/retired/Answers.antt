@@ -7,7 +7,6 @@ use Rattle.server_yard.specs.Rolls.{number_at}
 use Rattle.server_yard.specs.Yards.{yard_roll, yard_seat}
 use Rattle.server_yard.proofs.Keeping.{kept_on, one_more_of}
 use Rattle.server_events.proofs.WovenSteps.{phase_stays}
-use Rattle.server_yard.proofs.Matching.{plain_leads}
 use Rattle.server_yard.proofs.yard.Yard.retired.Goals as goal
 
 pub invariant_of-self : goal.invariant_of-self
@@ -24,9 +23,3 @@ invariant_of-self g c =
       finds = old.finds;
       installed = λ met. ∥∥₁_map (old.installed met) (λ k. kept_on own c.retire.ensures.lists refl refl refl (one_more_of e (yard_roll old) _ old.register.small fits noted) k);
     }
-
-pub returns-clause-beside : goal.returns-clause-beside
-returns-clause-beside g c = λ d.
-    let noted = c.retire.ensures.noted in
-    plain_leads _ _ (event.Retired (number_at (yard_seat c.args.self.now (place_of c.args.running)))) refl refl
-    (record { may = noted.may; happens = noted.happens; directory = refl; rules = refl; installing = refl })

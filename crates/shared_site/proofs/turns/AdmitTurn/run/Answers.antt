@@ -1,10 +1,9 @@
 use Rattle.std.proofs.Common.{refl, subst, rules}
 use Rattle.server_events.specs.declared.event.Event.TheVariants as event
 use Rattle.server_yard.specs.Rolls.{IsQuiet, Roll}
-use Rattle.server_yard.specs.Standing.{LeadsOn, YardState}
-use Rattle.server_yard.specs.Yards.{yard_over, yard_roll}
+use Rattle.server_yard.specs.Yards.{yard_roll}
 use Rattle.shared_site.specs.Turns.{spoken_by}
-use Rattle.shared_site.proofs.Spoken.{notes_from, spoken_over}
+use Rattle.shared_site.proofs.Spoken.{notes_from}
 use Rattle.shared_site.proofs.Making.{answered, counted, last_of}
 use Rattle.shared_site.proofs.turns.AdmitTurn.run.Goals as goal
 
@@ -13,13 +12,6 @@ returns-in-Ok-clause-noted g c =
     let e = event.Admitted c.in-Ok.serial c.args.self.peer.now in
     notes_from e e (yard_roll c.speaker.new.self) (spoken_by c.args.caller (yard_roll c.args.yard.now)) (yard_roll c.admit.new.self)
     refl c.speaker.ensures.speaks c.in-Ok.ensures.noted
-
-pub returns-in-Ok-clause-beside : goal.returns-in-Ok-clause-beside
-returns-in-Ok-clause-beside g c = λ d.
-    let old = c.args.yard.now in
-    let mid = c.speaker.new.self in
-    subst (λ (s : YardState). LeadsOn (event.Admitted c.in-Ok.serial c.args.self.peer.now) s (yard_over d c.admit.new.self))
-    (spoken_over c.args.caller d old mid c.speaker.ensures.speaks c.speaker.ensures.same) (c.in-Ok.ensures.beside d)
 
 pub made-requires : goal.made-requires
 made-requires g c = record {

@@ -1,8 +1,6 @@
 use Rattle.std.proofs.Common.{refl, rules}
-use Rattle.std.specs.Prelude.{IsTrue}
 use Rattle.server_events.specs.declared.event.Event.TheVariants as event
-use Rattle.server_yard.specs.Passes.{pass_bytes, pass_serial}
-use Rattle.server_yard.specs.Standing.{LeadsDecided}
+use Rattle.server_yard.specs.Passes.{pass_serial}
 use Rattle.server_yard.specs.Yards.{yard_roll}
 use Rattle.shared_site.proofs.Making.{answered, counted, last_of, made_by, stays}
 use Rattle.shared_site.proofs.turns.DecidedTurn.run.Goals as goal
@@ -12,11 +10,8 @@ returns-clause-makes g c =
     let pass = c.args.self.pass in
     let call = c.decided in
     let spoke = c.speaker.ensures in
-    made_by c.args.caller (event.Decided (pass_serial pass) c.args.self.decision)
-    (LeadsDecided (pass_serial pass) (pass_bytes g.G.File.RulesFile.bytes pass) c.args.self.decision)
-    (IsTrue g.G.File.RulesFile.honest) c.args.yard.now c.speaker.new.self call.new.self
-    (record { roll = spoke.speaks; beside = spoke.same; seats = spoke.seats }) call.ensures.noted call.ensures.beside
-    call.ensures.same call.ensures.seats
+    made_by c.args.caller (event.Decided (pass_serial pass) c.args.self.decision) c.args.yard.now c.speaker.new.self call.new.self
+    (record { roll = spoke.speaks; beside = spoke.same; seats = spoke.seats }) call.ensures.noted call.ensures.same call.ensures.seats
 
 pub made-requires : goal.made-requires
 made-requires g c = record {

@@ -26,7 +26,7 @@ returns-clause-makes g c =
     let at = c.speak_at.ensures.stays (may_leave c.args.self.leaving) (leaves_from_none c.args.self.leaving) (sym c.may_be.ensures ∙ (search rules)) in
     let call = c.left in
     made_own c.args.caller (leaving_event c.args.self.leaving) _ c.args.self.serial c.args.yard.now c.speak_at.new.yard call.new.self
-    at.has_serial c.speak_at.ensures.spoken call.ensures.noted call.ensures.beside call.ensures.same call.ensures.seats
+    at.has_serial c.speak_at.ensures.spoken call.ensures.noted call.ensures.same call.ensures.seats
 
 pub returns-clause-counts : goal.returns-clause-counts
 returns-clause-counts g c =

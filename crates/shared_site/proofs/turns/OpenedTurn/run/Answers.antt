@@ -1,26 +1,20 @@
-use Rattle.std.proofs.Common.{◌≡◌, refl, subst, rules}
-use Rattle.std.specs.Prelude.{⊤, Option, is_some, option_map}
+use Rattle.std.proofs.Common.{refl, subst, rules}
+use Rattle.std.specs.Prelude.{Option, is_some}
 use Rattle.server_events.specs.declared.event.Event.TheVariants as event
 use Rattle.server_yard.specs.Passes.{finding_file}
 use Rattle.server_yard.specs.Rolls.{Notes}
-use Rattle.server_yard.specs.Standing.{LeadsOpened, standing_of}
-use Rattle.server_yard.specs.Yards.{yard_over, yard_roll}
-use Rattle.shared_site.specs.Turns.{LeadsFound}
+use Rattle.server_yard.specs.Yards.{yard_roll}
 use Rattle.shared_site.proofs.Making.{counted, last_of, made_by, stays}
 use Rattle.shared_site.proofs.turns.OpenedTurn.run.Goals as goal
 
 pub returns-clause-makes : goal.returns-clause-makes
 returns-clause-makes g c =
     let file = finding_file c.args.self.finding in
-    let bytes = g.G.File.RulesFile.bytes in
     let call = c.opened-pass in
     let spoke = c.speaker.ensures in
-    made_by c.args.caller (event.Opened c.args.self.serial (is_some file)) (LeadsFound c.args.self.serial (option_map bytes file)) ⊤
-    c.args.yard.now c.speaker.new.self call.new.self
+    made_by c.args.caller (event.Opened c.args.self.serial (is_some file)) c.args.yard.now c.speaker.new.self call.new.self
     (record { roll = spoke.speaks; beside = spoke.same; seats = spoke.seats })
     (subst (λ (found : Option _). Notes (event.Opened c.args.self.serial (is_some found)) (yard_roll c.speaker.new.self) (yard_roll call.new.self)) call.ensures.found call.ensures.noted)
-    (λ left _. subst (λ (found : Option _). option_map bytes found ≡ standing_of (yard_over left c.speaker.new.self)
-    → LeadsOpened c.args.self.serial (option_map bytes found) (yard_over left c.speaker.new.self) (yard_over left call.new.self)) call.ensures.found (call.ensures.beside left))
     call.ensures.same call.ensures.seats
 
 pub made-requires : goal.made-requires

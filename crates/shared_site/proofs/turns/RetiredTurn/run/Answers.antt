@@ -25,7 +25,7 @@ returns-clause-makes g c =
     let at = subst (λ (i : ℕ). IsAt is_started c.args.self.serial c.speak_at.new.yard i) c.place.ensures (c.speak_at.ensures.stays is_started refl (sym c.is_started.ensures ∙ (search rules))) in
     let call = c.retired in
     made_own c.args.caller (λ (n : ℕ). event.Retired n) _ c.args.self.serial c.args.yard.now c.speak_at.new.yard call.new.self
-    at.has_serial c.speak_at.ensures.spoken call.ensures.noted call.ensures.beside call.ensures.same call.ensures.seats
+    at.has_serial c.speak_at.ensures.spoken call.ensures.noted call.ensures.same call.ensures.seats
 
 pub returns-clause-counts : goal.returns-clause-counts
 returns-clause-counts g c =

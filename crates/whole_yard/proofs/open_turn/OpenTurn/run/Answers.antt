@@ -1,12 +1,12 @@
-use Rattle.std.proofs.Common.{◌≡◌, inr, refl, sym, ap, subst, ◌∙◌, rules}
+use Rattle.std.proofs.Common.{inr, refl, sym, ap, subst, ◌∙◌, rules}
 use Rattle.std.specs.Prelude.{is_some}
 use Rattle.server_events.specs.Worlds.{missing_by}
 use Rattle.server_events.specs.declared.event.Event.TheVariants as event
 use Rattle.server_yard.specs.Passes.{pass_bytes, pass_file}
 use Rattle.server_yard.specs.Standing.{LeadsOpened, Matches, YardState, standing_of}
-use Rattle.server_yard.specs.Yards.{yard_directory, yard_over, yard_roll, yard_state}
+use Rattle.server_yard.specs.Yards.{yard_directory, yard_roll, yard_state}
 use Rattle.shared_site.specs.Turns.{spoken_by}
-use Rattle.shared_site.proofs.Spoken.{notes_from, spoken_over, spoken_state}
+use Rattle.shared_site.proofs.Spoken.{notes_from, spoken_state}
 use Rattle.whole_yard.proofs.Calling.{same_from}
 use Rattle.shared_site.proofs.Counts.{one_counted}
 use Rattle.shared_site.proofs.Making.{answered, last_of}
@@ -34,14 +34,6 @@ returns-in-Ok-clause-step g c = λ honest.
     let mid = c.speaker.new.self in
     subst (λ (s : YardState). LeadsOpened c.args.self.serial (pass_bytes g.G.File.RulesFile.bytes c.in-Ok.pass) s (yard_state c.open.new.self))
     (spoken_state c.args.caller old mid c.speaker.ensures.speaks c.speaker.ensures.same) (c.in-Ok.ensures.step honest)
-
-pub returns-in-Ok-clause-beside : goal.returns-in-Ok-clause-beside
-returns-in-Ok-clause-beside g c = λ d.
-    let old = c.args.yard.now in
-    let mid = c.speaker.new.self in
-    let bytes = pass_bytes g.G.File.RulesFile.bytes c.in-Ok.pass in
-    subst (λ (s : YardState). bytes ≡ standing_of s → LeadsOpened c.args.self.serial bytes s (yard_over d c.open.new.self))
-    (spoken_over c.args.caller d old mid c.speaker.ensures.speaks c.speaker.ensures.same) (c.in-Ok.ensures.beside d)
 
 pub returns-in-Ok-clause-without : goal.returns-in-Ok-clause-without
 returns-in-Ok-clause-without g c = λ unset. c.open.ensures.without (c.speaker.ensures.same.rules ∙ unset) ∙ c.speaker.ensures.same.directory

@@ -1,12 +1,12 @@
 -- A start that failed.
-use Rattle.std.proofs.Common.{ap, subst}
+use Rattle.std.proofs.Common.{ap, refl, subst}
 use Rattle.std.specs.Prelude.{ℕ}
 use Rattle.server_events.specs.declared.event.Event.TheVariants.{StartFailed}
 use Rattle.server_yard.specs.Rolls.{number_at}
 use Rattle.server_yard.specs.Standing.{LeadsOn}
 use Rattle.server_yard.specs.Yards.{yard_seat}
 use Rattle.whole_yard.specs.YardAgents.{MakesEvent}
-use Rattle.whole_yard.proofs.Calling.{makes_beside}
+use Rattle.whole_yard.proofs.Calling.{makes_plain}
 use Rattle.whole_yard.proofs.yard_agent.YardAgentAgent.start_failed.Goals as goal
 
 pub returns-clause-told : goal.returns-clause-told
@@ -15,5 +15,5 @@ returns-clause-told g c =
     let new = c.left.new.self in
     let m = number_at (yard_seat old c.args.place) in
     subst (λ (n : ℕ). MakesEvent (LeadsOn (StartFailed n c.args.refusal.fault)) (StartFailed n c.args.refusal.fault) old new)
-    (ap number_at c.requires.stands.seat) (makes_beside (LeadsOn (StartFailed m c.args.refusal.fault)) (StartFailed m c.args.refusal.fault) old new
-    c.left.ensures.noted c.left.ensures.same (λ honest. c.left.ensures.beside))
+    (ap number_at c.requires.stands.seat)
+    (makes_plain (StartFailed m c.args.refusal.fault) old new refl c.left.ensures.noted c.left.ensures.same)

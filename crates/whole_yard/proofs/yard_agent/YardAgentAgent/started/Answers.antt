@@ -1,5 +1,5 @@
 -- Starting.
-use Rattle.std.proofs.Common.{ap, subst, ◌∙◌}
+use Rattle.std.proofs.Common.{ap, refl, subst, ◌∙◌}
 use Rattle.std.specs.Prelude.{ℕ}
 use Rattle.child_jobs.specs.Runs.{place_of}
 use Rattle.rule_lookup.specs.declared.instr.Verdict.TheVariants.{Allow}
@@ -10,7 +10,7 @@ use Rattle.server_yard.specs.Rolls.{number_at}
 use Rattle.server_yard.specs.Yards.{yard_seat, yard_server}
 use Rattle.server_yard.specs.Standing.{LeadsOn}
 use Rattle.whole_yard.specs.YardAgents.{MakesEvent}
-use Rattle.whole_yard.proofs.Calling.{makes_beside}
+use Rattle.whole_yard.proofs.Calling.{makes_plain}
 use Rattle.whole_yard.proofs.Standings.{peer_then, stage_then}
 use Rattle.whole_yard.proofs.yard_agent.YardAgentAgent.started.Goals as goal
 
@@ -31,5 +31,4 @@ returns-clause-told g c =
     let new = c.started.new.self in
     let m = number_at (yard_seat old (place_of c.args.running.now)) in
     subst (λ (n : ℕ). MakesEvent (LeadsOn (Started n)) (Started n) old new)
-    (ap number_at c.requires.stands.seat) (makes_beside (LeadsOn (Started m)) (Started m) old new
-    c.started.ensures.noted c.started.ensures.same (λ honest. c.started.ensures.beside))
+    (ap number_at c.requires.stands.seat) (makes_plain (Started m) old new refl c.started.ensures.noted c.started.ensures.same)
