@@ -36,12 +36,15 @@ pub fn cause_of_open(fault: DirFault) -> DropCause
 /// is the event that a call made. If others use the yard too, a call may be out of turn: its event was asked for, and
 /// did not happen. A call that fails answers the cause for which the connection is to be dropped. Out of turn counts as
 /// a fault of the directory.
-pub trait Agent {
-    /// The ledger of places, with what is assumed of the rules.
-    type Ledger: Assumptions;
+pub trait Agent<L: Assumptions> {
+    /// The right to one child, which `start_failed` and `dropped` take back: a `Place<L>`.
+    type Place;
 
     /// What a connection has once it opened the rules.
     type Pass: Drop;
+
+    /// The index of a place.
+    ghost index: { Self.Place → ℕ };
 
     /// What a pass found.
     ghost opening: { Self.Pass → Opening };
@@ -92,7 +95,7 @@ pub trait Agent {
     fn open(
         &mut self,
         alloc: Global,
-        place: &Place<Self::Ledger>,
+        place: &Place<L>,
         number: u64,
         peer: &Peer,
     ) -> Result<Self::Pass, DropCause>
@@ -124,7 +127,7 @@ pub trait Agent {
     fn decided(
         &mut self,
         alloc: Global,
-        place: &Place<Self::Ledger>,
+        place: &Place<L>,
         pass: Self::Pass,
         peer: &Peer,
         decision: Decision,
@@ -143,28 +146,22 @@ pub trait Agent {
         ensures failures { failures self.new ≡ failures self.old };
 
     /// Notes that the child of an allowed connection runs.
-    fn started<C: Job>(&mut self, running: &Running<Self::Ledger, C>, number: u64, peer: &Peer)
+    fn started<C: Job>(&mut self, running: &Running<L, C>, number: u64, peer: &Peer)
         requires stands { stands self.old (place_of running.now) number peer.now (stage.Decided Allow) }
         ensures told { tells self.old (Started number) self.new }
         ensures started { is_shared ≡ false → stands self.new (place_of running.now) number peer.now stage.Started }
         ensures keeps { found self.new ≡ found self.old };
 
     /// Notes that the child of an allowed connection was not started, for this reason. The connection is gone.
-    fn start_failed(
-        &mut self,
-        place: Place<Self::Ledger>,
-        number: u64,
-        peer: &Peer,
-        refusal: NotStarted,
-    )
-        requires stands { stands self.old place number peer.now (stage.Decided Allow) }
+    fn start_failed(&mut self, place: Self::Place, number: u64, peer: &Peer, refusal: NotStarted)
+        requires stands { stands self.old (index place) number peer.now (stage.Decided Allow) }
         ensures told { tells self.old (StartFailed number refusal.fault) self.new }
         ensures gone { is_gone self.new number }
         ensures keeps { found self.new ≡ found self.old };
 
     /// Notes that a connection is given up before a child was started, for this cause. It is gone.
-    fn dropped(&mut self, place: Place<Self::Ledger>, number: u64, peer: &Peer, cause: DropCause)
-        requires stands { IsUnstarted (stands self.old place number peer.now) }
+    fn dropped(&mut self, place: Self::Place, number: u64, peer: &Peer, cause: DropCause)
+        requires stands { IsUnstarted (stands self.old (index place) number peer.now) }
         ensures told { tells self.old (Dropped number cause) self.new }
         ensures gone { is_gone self.new number }
         ensures keeps { found self.new ≡ found self.old }

@@ -16,6 +16,7 @@ use child_jobs::{
     build, start,
 };
 use rule_lookup::{DecideFault, FindFault, Peer, Verdict};
+use server_yard::Assumptions;
 use std::alloc::Global;
 use std::io::Write;
 use std::sync::ledger::Ledger;
@@ -63,10 +64,10 @@ fn greet<W: Write>(writer: &mut W, banner: &[u8]) -> Result<(), DropCause>
 }
 
 // Opens the rules for a connection, decides it, and makes the environment for its child.
-fn prepare<D: Agent>(
+fn prepare<L: Assumptions, D: Agent<L, Place = Place<L>>>(
     alloc: Global,
     agent: &mut D,
-    place: &Place<D::Ledger>,
+    place: &Place<L>,
     serial: u64,
     peer: &Peer,
     local: &Local,
@@ -97,17 +98,53 @@ fn prepare<D: Agent>(
     })
 }
 
+// Gives a connection up.
+fn give_up<L: Assumptions, D: Agent<L, Place = Place<L>>>(
+    agent: &mut D,
+    place: Place<L>,
+    serial: u64,
+    peer: &Peer,
+    cause: DropCause,
+)
+    requires index { (place : ℕ) → D.index place ≡ place }
+    requires stands { IsUnstarted (D.stands agent.old place serial peer.now) }
+    ensures told { D.tells agent.old (Dropped serial cause) agent.new }
+    ensures gone { D.is_gone agent.new serial }
+    ensures keeps { D.found agent.new ≡ D.found agent.old }
+    ensures failures { D.failures agent.new ≡ D.failures agent.old }
+{
+    agent.dropped(place, serial, peer, cause);
+}
+
+// Tells that the child of a connection was not started, for this reason.
+fn tell_failure<L: Assumptions, D: Agent<L, Place = Place<L>>>(
+    agent: &mut D,
+    place: Place<L>,
+    serial: u64,
+    peer: &Peer,
+    refusal: NotStarted,
+)
+    requires index { (place : ℕ) → D.index place ≡ place }
+    requires stands { D.stands agent.old place serial peer.now (stage.Decided Allow) }
+    ensures told { D.tells agent.old (StartFailed serial refusal.fault) agent.new }
+    ensures gone { D.is_gone agent.new serial }
+    ensures keeps { D.found agent.new ≡ D.found agent.old }
+{
+    agent.start_failed(place, serial, peer, refusal);
+}
+
 // Starts the child of a connection that was allowed.
-fn run<D: Agent, S: Launcher>(
+fn run<L: Assumptions, D: Agent<L, Place = Place<L>>, S: Launcher>(
     alloc: Global,
     agent: &mut D,
-    place: Place<D::Ledger>,
+    place: Place<L>,
     serial: u64,
     peer: &Peer,
     plan: &Plan,
     launcher: S,
     environment: &Environment,
-) -> Served<D::Ledger, S::Job>
+) -> Served<L, S::Job>
+    requires index { (place : ℕ) → D.index place ≡ place }
     requires stands { D.stands agent.old place serial peer.now (stage.Decided Allow) }
     ensures running { IfRunning result (λ child. (S.Job.program (job_of child) ≡ plan.now.program)
         × (S.Job.environment (job_of child) ≡ environment.now)) }
@@ -126,7 +163,7 @@ fn run<D: Agent, S: Launcher>(
             Served::Running(running)
         }
         Err((place, refusal)) => {
-            agent.start_failed(place, serial, peer, refusal);
+            tell_failure(agent, place, serial, peer, refusal);
             Served::StartFailed(refusal.fault)
         }
     }
@@ -143,17 +180,18 @@ fn run<D: Agent, S: Launcher>(
 /// `Dropped` with the cause: the banner could not be written, the rules file could not be opened or read or is damaged,
 /// or there was no memory. A connection that was decided to be denied is never dropped so. Unless the child runs, the
 /// connection is gone, and its place is free.
-pub fn serve_one<D: Agent, S: Launcher + Drop, W: Write>(
+pub fn serve_one<L: Assumptions, D: Agent<L, Place = Place<L>>, S: Launcher + Drop, W: Write>(
     alloc: Global,
     agent: &mut D,
-    place: Place<D::Ledger>,
+    place: Place<L>,
     serial: u64,
     peer: &Peer,
     local: &Local,
     plan: &Plan,
     launcher: S,
     writer: &mut W,
-) -> Served<D::Ledger, S::Job>
+) -> Served<L, S::Job>
+    requires index { (place : ℕ) → D.index place ≡ place }
     requires admitted { D.stands agent.old place serial peer.now stage.Admitted }
     // the decided program, with the decided environment
     ensures running { IfRunning result (λ child. IsChild (WasFound (D.found agent.new) (D.finds agent.old)) D.honest D.sound
@@ -174,17 +212,17 @@ pub fn serve_one<D: Agent, S: Launcher + Drop, W: Write>(
     ensures greeted { Greets (W.contents writer.old) (W.contents writer.new) plan.now.banner (is_cut_short result) }
 {
     if let Err(cause) = greet(writer, plan.banner()) {
-        agent.dropped(place, serial, peer, cause);
+        give_up(agent, place, serial, peer, cause);
         return Served::Dropped(cause);
     }
     match prepare(alloc, agent, &place, serial, peer, local, plan) {
         Err(cause) => {
-            agent.dropped(place, serial, peer, cause);
+            give_up(agent, place, serial, peer, cause);
             Served::Dropped(cause)
         }
         Ok(prepared) => match prepared.verdict {
             Verdict::Deny => {
-                agent.dropped(place, serial, peer, DropCause::Denied);
+                give_up(agent, place, serial, peer, DropCause::Denied);
                 Served::Denied
             }
             Verdict::Allow => run(

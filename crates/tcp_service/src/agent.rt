@@ -174,7 +174,7 @@ impl<G: AgentGround> LoggedAgent<'_, G> {
     }
 }
 
-impl<G: AgentGround> Agent for LoggedAgent<'_, G> {
+impl<G: AgentGround> Agent<G::Places> for LoggedAgent<'_, G> {
     ghost use Rattle.std.specs.Prelude.{◌≡◌, ◌-◌, ◌^◌, true, Some, IfOk, IfErr, OnOk, OnErr};
     ghost use Rattle.one_connection.specs.Openings.{Decides, FailsToDecide, RefusesDecision, kept_opening, opening_of};
     ghost use Rattle.server_events.specs.declared.event.Event.TheVariants as event;
@@ -182,9 +182,11 @@ impl<G: AgentGround> Agent for LoggedAgent<'_, G> {
     ghost use Rattle.server_yard.specs.Passes.{IsDecidedBy, pass_missing, pass_serial};
     ghost use Rattle.tcp_service.specs.Agents.{IsFoundFor, IsGoneBy, IsMissingBy, StandsBy, asked};
 
-    type Ledger = G::Places;
+    type Place = Place<G::Places>;
 
     type Pass = Pass<G::Places, G::File>;
+
+    ghost index = { λ place. place };
 
     ghost opening = { λ pass. opening_of G.File.bytes pass };
 

@@ -56,7 +56,7 @@ impl<L: Assumptions, D: Dir + Drop> YardAgent<L, D> {
     }
 }
 
-impl<L: Assumptions, D: Dir + Drop> Agent for YardAgent<L, D> {
+impl<L: Assumptions, D: Dir + Drop> Agent<L> for YardAgent<L, D> {
     ghost use Rattle.std.specs.Prelude.{◌≡◌, false, IfErr, IfOk, OnErr, OnOk};
     ghost use Rattle.rule_lookup.specs.declared.instr.Verdict.TheVariants.{Allow};
     ghost use Rattle.server_events.specs.declared.event.Event.TheVariants.{Decided, Dropped, StartFailed};
@@ -69,9 +69,11 @@ impl<L: Assumptions, D: Dir + Drop> Agent for YardAgent<L, D> {
     ghost use Rattle.one_connection.specs.Openings.{Decides, FailsToDecide, RefusesDecision, kept_opening, opening_of};
     ghost use Rattle.whole_yard.specs.YardAgents.{FindsOf, IsGoneFrom, LeadsBy, MakesEvent, MakesNone, StandsAt};
 
-    type Ledger = L;
+    type Place = Place<L>;
 
     type Pass = Pass<L, D::File>;
+
+    ghost index = { λ place. place };
 
     ghost opening = { λ pass. opening_of D.File.bytes pass };
 

@@ -33,10 +33,9 @@ returns-in-Err-prepare-clause-greeted g c =
     let fails = FailsFor (WasFound (g.D.Agent.found c.prepare.new.agent) (g.D.Agent.finds c.args.agent.now)) g.D.Agent.honest g.D.Agent.sound c.args.peer.now in
     greets_dropped old new c.args.plan.now.banner fails g.D.Agent.is_shared (g.D.Agent.failures c.args.agent.now) (g.D.Agent.failures c.prepare.new.agent) c.in-Err-prepare.cause wrote c.in-Err-prepare.ensures.dropped
 
-pub run-requires : goal.run-requires
-run-requires g c = record {
-  stands = subst (λ verdict. g.D.Agent.stands c.prepare.new.agent c.args.place c.args.serial c.args.peer.now (stage.Decided verdict)) c.in-Allow.is c.in-Ok.ensures.decided;
-}
+pub run-requires-clause-stands : goal.run-requires-clause-stands
+run-requires-clause-stands g c =
+    subst (λ verdict. g.D.Agent.stands c.prepare.new.agent c.args.place c.args.serial c.args.peer.now (stage.Decided verdict)) c.in-Allow.is c.in-Ok.ensures.decided
 
 pub returns-in-Err-clause-told : goal.returns-in-Err-clause-told
 returns-in-Err-clause-told g c = record {
@@ -45,5 +44,5 @@ returns-in-Err-clause-told g c = record {
   stage = stage.Admitted;
   stood = c.requires.admitted;
   comes = search rules;
-  told = c.dropped.ensures.told;
+  told = c.give_up.ensures.told;
 }
