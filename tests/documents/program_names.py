@@ -3,6 +3,7 @@
 By any other name the first word names the tool.
 """
 import os
+import pty
 import re
 import subprocess
 import tempfile
@@ -130,6 +131,14 @@ def check_about(names, tools):
     lines = [re.fullmatch(r"ucspi (.*): [a-z].*[a-z]", line) for line in told.decode().split("\n")[:-1]]
     wanted = sorted((tool + " " + TOOLS[tool][0]).strip() for tool in tools)
     names.expect("--help", (code, sorted(line.group(1) if line else "" for line in lines), errors), (0, wanted, b""))
+    # without arguments a terminal gets the same lines, by whatever name; a tool by its own name is that tool
+    for words, wanted in (([], (100, told, b"")), (["rulesim"], (0, b"", b""))):
+        outer, inner = pty.openpty()
+        os.write(outer, b"\x04")
+        ended = subprocess.run([os.path.join(names.bin, "ucspi")] + words, stdin=inner, stdout=subprocess.PIPE, stderr=subprocess.PIPE, timeout=600)
+        os.close(outer)
+        os.close(inner)
+        names.expect("words %s at a terminal" % words, (ended.returncode, ended.stdout, ended.stderr), wanted)
     for word in ("--version", "--help"):
         for words in ([word, ""], [word, word], [word.upper()], [word[:-1]], [word + "x"], [word[1:]], ["tcprules", word, word, word]):
             usage_line = usage("tcprules") if words[0] == "tcprules" else b"ucspi: usage: ucspi TOOL ...\n"

@@ -1,5 +1,5 @@
-//! The program `ucspi`: the name by which it was called, or its first word, names a tool; `rulesim` where there is
-//! none.
+//! The program `ucspi`: the name by which it was called, or its first word, names a tool. Where there is none it is
+//! `rulesim`, or at a terminal it lists the tools.
 //!
 //! `main` lends the system, and the tools that start threads, to `ucspi_tools::run_system`. What it lends is a premise,
 //! which its lines state: `docs/internals/PROOFS.md` lists them.

@@ -17,7 +17,8 @@ use Rattle.ucspi_tools.specs.declared.tool.TheConstants.{CHECK_WORDS, FILTER_WOR
 use Rattle.ucspi_tools.specs.declared.tool.Tool.{Tool}
 use Rattle.ucspi_tools.specs.declared.tool.Tool.TheVariants.{Tcpserver, Rulesim, Tcprules, Tcprulescheck, Addcr, Delcr, Fixcrio, Recordio}
 
--- a run of `tcpserver` in this voice with its words; of `rulesim`; of `tcprules` with the paths of the rules file and of
+-- a run of `tcpserver` in this voice with its words; of `rulesim`, or without words, at a terminal, a line for each tool;
+-- of `tcprules` with the paths of the rules file and of
 -- the scratch file; of `tcprules` over a text alone, and whether a warning makes it fail; of `tcprulescheck` with the path
 -- of the rules file; of `addcr`; of `delcr`; of `recordio`, where it is recorded, or of `fixcrio`, with a program and its
 -- arguments; the version of the program; a line for each tool; the words of a tool, a line each; the usage line of a tool;
@@ -25,6 +26,7 @@ use Rattle.ucspi_tools.specs.declared.tool.Tool.TheVariants.{Tcpserver, Rulesim,
 pub data Wanted : Type 0 where
   serves : Voice → List (List ℕ) → Wanted
   simulates : Wanted
+  unasked : Wanted
   installs : Detail → List ℕ → List ℕ → Wanted
   reviews : Detail → Bool → Wanted
   checks : Detail → List ℕ → Wanted
@@ -41,6 +43,7 @@ pub data Wanted : Type 0 where
 abbrev pub wanted : ToolChoice → Wanted
 wanted (choice.Tcpserver voice words) = serves voice (texts_of words.now)
 wanted choice.Rulesim = simulates
+wanted choice.Unasked = unasked
 wanted (choice.Tcprules detail cdb tmp) = installs detail cdb.now tmp.now
 wanted (choice.Review detail strict) = reviews detail strict
 wanted (choice.Tcprulescheck detail cdb) = checks detail cdb.now
@@ -199,9 +202,9 @@ abbrev pub run_by : Option Tool → List ℕ → List (List ℕ) → Wanted
 run_by (Some tool) word words = run_of Plain tool words
 run_by None word words = asked_by word words
 
--- with no words it is `rulesim`
+-- with no words nothing is asked for
 abbrev pub choice_by_word : List (List ℕ) → Wanted
-choice_by_word [] = simulates
+choice_by_word [] = unasked
 choice_by_word (tool ∷ words) = run_by (tool_of tool) tool words
 
 -- a tool by its own name: a word that stands alone may ask for the version or for help
@@ -237,6 +240,7 @@ pub record CallsFor (path : List ℕ) (words : List (List ℕ)) (asked : Wanted)
 abbrev pub tool_in : Wanted → Option Tool
 tool_in (serves voice words) = Some Tcpserver
 tool_in simulates = Some Rulesim
+tool_in unasked = Some Rulesim
 tool_in (installs detail cdb tmp) = Some Tcprules
 tool_in (reviews detail strict) = Some Tcprules
 tool_in (checks detail cdb) = Some Tcprulescheck

@@ -1,5 +1,5 @@
 -- What a run of the program is: the tool that its words ask for, what it does, and the code with which it exits.
-use Rattle.std.specs.Prelude.{◌≡◌, ◌⊎◌, ℕ, Bool, List, [], Option, Some, None, Result, Ok, Err, IsTrue, IfSome, OnOk, drop, codes}
+use Rattle.std.specs.Prelude.{◌≡◌, ◌⊎◌, ℕ, Bool, true, false, List, [], Option, Some, None, Result, Ok, Err, IsTrue, IfSome, OnOk, drop, codes}
 use Rattle.std.specs.Io.KnownBytes.{Appends}
 use Rattle.std.specs.declared.io.Error.{Error}
 use Rattle.byte_streams.specs.Wrapped.{added, deleted}
@@ -29,10 +29,11 @@ abbrev pub Answer : Type 0
 Answer = Result ℕ ToolFault
 
 -- what each of the tools that are lent does, and what telling a fault does: the words that it gets, how all stand before
--- and after it, what it leaves to be told, and its own answer
+-- and after it, what it leaves to be told, and its own answer; and whether a person may be told to ask at a terminal
 pub record Lent (C : Type 0) : Type 1 where
   pub serves : Voice → List (List ℕ) → C → C → List ℕ → Result (Unit {0}) TcpserverFault → Type 0
   pub simulates : C → C → Result (Unit {0}) SimFault → Type 0
+  pub at_terminal : C → Bool → Type 0
   pub installs : List ℕ → List ℕ → C → C → Result (Unit {0}) RulesFailure → Type 0
   pub reviews : C → C → Result Bool ReviewFault → Type 0
   pub checks : List ℕ → C → C → Result (Unit {0}) CheckFailure → Type 0
@@ -45,6 +46,7 @@ anything =
     record {
       serves = λ voice words old new causes own. Unit {0};
       simulates = λ old new own. Unit {0};
+      at_terminal = λ calls answer. Unit {0};
       installs = λ cdb tmp old new own. Unit {0};
       reviews = λ old new own. Unit {0};
       checks = λ cdb old new own. Unit {0};
@@ -75,6 +77,11 @@ answered of (Err fault) = Err (of fault)
 abbrev pub written : Result (Unit {0}) Error → Answer
 written (Ok done) = Ok 0
 written (Err error) = Err kind.WriteFault
+
+-- of one that a writer gave, where the words ask for nothing: bad input
+abbrev pub listed : Result (Unit {0}) Error → Answer
+listed (Ok done) = Ok 100
+listed (Err error) = Err kind.WriteFault
 
 -- a failure of `tcprules`, of it over a text alone, of `tcprulescheck`, and of a program between two streams, and what is
 -- told of it behind its line
@@ -130,6 +137,14 @@ KeepsStreams old new = (new.input ≡ old.input) × (new.output ≡ old.output)
 abbrev pub KeepsTools : {I O C : Type 0} → Program I O C → Program I O C → List ℕ → List ℕ → Type 0
 KeepsTools old new before causes = (new.calls ≡ old.calls) × (causes ≡ before)
 
+-- a run without words: at a terminal all tools are listed, and else it is one of `rulesim`
+abbrev pub RanUnasked : {I O C : Type 0} → Parts I O C → Bool → Program I O C → Program I O C → Answer → Type 0
+RanUnasked parts true old new answer = (new.input ≡ old.input) × (new.calls ≡ old.calls)
+    × ((own : Result (Unit {0}) Error) × (answer ≡ listed own))
+RanUnasked parts false old new answer = KeepsStreams old new
+    × ((own : Result (Unit {0}) SimFault) × parts.lent.simulates old.calls new.calls own
+    × (answer ≡ answered kind.Script own))
+
 -- a run of what is asked for, and nothing else: how the program stands before and after it, what is to be told behind the
 -- line of a fault before and after it, and its answer. Wrong words run nothing
 abbrev pub Ran : {I O C : Type 0} → Parts I O C → Wanted → Program I O C → Program I O C → List ℕ → List ℕ → Answer → Type 0
@@ -139,6 +154,8 @@ Ran parts (asked.serves voice words) old new before causes answer = KeepsStreams
 Ran parts asked.simulates old new before causes answer = KeepsStreams old new × (causes ≡ before)
     × ((own : Result (Unit {0}) SimFault) × parts.lent.simulates old.calls new.calls own
     × (answer ≡ answered kind.Script own))
+Ran parts asked.unasked old new before causes answer = (causes ≡ before)
+    × ((by_hand : Bool) × parts.lent.at_terminal old.calls by_hand × RanUnasked parts by_hand old new answer)
 Ran parts (asked.installs detail cdb tmp) old new before causes answer =
     KeepsStreams old new × Installs parts.lent detail cdb tmp old.calls new.calls before causes answer
 Ran parts (asked.reviews detail strict) old new before causes answer =

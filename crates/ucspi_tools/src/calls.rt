@@ -38,6 +38,10 @@ pub trait Calls {
     fn simulate(&mut self) -> Result<(), SimFault>
         ensures { lent.simulates self.old self.new result };
 
+    /// Whether standard input is a terminal.
+    fn is_at_terminal(&self) -> bool
+        ensures { lent.at_terminal self.now result };
+
     /// `tcprules`, by the paths of the rules file and of the scratch file. A faulty line of the text is left in
     /// `faulty`, where it was kept.
     ///

@@ -17,6 +17,8 @@ pub enum ToolChoice<'a> {
     Tcpserver(Voice, &'a [Vec<u8>]),
     /// A run of `rulesim`.
     Rulesim,
+    /// There are no words, and no name of a tool: at a terminal a line for each tool, and else a run of `rulesim`.
+    Unasked,
     /// A run of `tcprules` with the paths of the rules file and of the scratch file.
     Tcprules(Detail, &'a str, &'a str),
     /// A run of `tcprules` over a text alone, and whether a warning makes it fail.
@@ -48,7 +50,7 @@ impl ToolChoice<'_> {
     {
         match self {
             ToolChoice::Tcpserver(..) => Some(Tool::Tcpserver),
-            ToolChoice::Rulesim => Some(Tool::Rulesim),
+            ToolChoice::Rulesim | ToolChoice::Unasked => Some(Tool::Rulesim),
             ToolChoice::Tcprules(..) | ToolChoice::Review(..) => Some(Tool::Tcprules),
             ToolChoice::Tcprulescheck(..) => Some(Tool::Tcprulescheck),
             ToolChoice::Addcr => Some(Tool::Addcr),
@@ -99,7 +101,7 @@ fn choose_by_word(words: &[Vec<u8>]) -> ToolChoice<'_>
     ensures { wanted result ≡ choice_by_word (texts_of words.now) }
 {
     let Some((tool, words)) = words.split_first() else {
-        return ToolChoice::Rulesim;
+        return ToolChoice::Unasked;
     };
     match Tool::named(tool) {
         Some(tool) => choose_tool(tool, words, Voice::Plain),

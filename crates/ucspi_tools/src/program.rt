@@ -3,17 +3,18 @@ ghost use Rattle.std.specs.Prelude.{◌≡◌, IfOk};
 ghost use Rattle.stream_tools.specs.Programs.{texts_of};
 ghost use Rattle.ucspi_tools.specs.Choices.{wanted};
 ghost use Rattle.ucspi_tools.specs.Exits.{end_code};
-ghost use Rattle.ucspi_tools.specs.Runs.{AreGiven, Checks, Installs, Passes, Ran, Reviews, Runs, RunsBy, Told, answered, name_told, written};
-ghost use Rattle.ucspi_tools.specs.declared.fault.ToolFault.TheVariants.{Filter};
+ghost use Rattle.ucspi_tools.specs.Runs.{AreGiven, Checks, Installs, Passes, Ran, Reviews, Runs, RunsBy, Told, answered, listed, name_told, written};
+ghost use Rattle.ucspi_tools.specs.declared.fault.ToolFault.TheVariants.{Filter, Script};
 
 use crate::about::{tell_tools, tell_version, tell_words};
 use crate::calls::Calls;
 use crate::causes::{append_cause, append_faulty, append_start};
 use crate::choice::{ToolChoice, choose};
-use crate::fault::{SYSTEM_FAULT, ToolFault, status_code, warned_code};
+use crate::fault::{BAD_INPUT, SYSTEM_FAULT, ToolFault, status_code, warned_code};
 use crate::tool::Tool;
 use fault_hints::Detail;
 use rules_tools::{ReviewFault, TcprulesFault};
+use script_tool::SimFault;
 use std::alloc::{AllocError, Global};
 use std::io;
 use std::io::{Read, Write};
@@ -130,10 +131,14 @@ fn run<I: Read, O: Write, C: Calls>(
             Ok(()) => Ok(0),
             Err(fault) => Err(ToolFault::Server(fault)),
         },
-        ToolChoice::Rulesim => match calls.simulate() {
-            Ok(()) => Ok(0),
-            Err(fault) => Err(ToolFault::Script(fault)),
-        },
+        ToolChoice::Rulesim => simulated(calls.simulate()),
+        ToolChoice::Unasked => {
+            if calls.is_at_terminal() {
+                listed(tell_tools(output))
+            } else {
+                simulated(calls.simulate())
+            }
+        }
         ToolChoice::Tcprules(detail, cdb, tmp) => install(calls, alloc, causes, detail, (cdb, tmp)),
         ToolChoice::Review(detail, strict) => review(calls, alloc, causes, detail, strict),
         ToolChoice::Tcprulescheck(detail, cdb) => check(calls, alloc, causes, detail, cdb),
@@ -258,6 +263,26 @@ fn filtered(own: Result<(), FilterFault>) -> Result<u8, ToolFault>
     match own {
         Ok(()) => Ok(0),
         Err(fault) => Err(ToolFault::Filter(fault)),
+    }
+}
+
+/// The answer of a script.
+fn simulated(own: Result<(), SimFault>) -> Result<u8, ToolFault>
+    ensures { result ≡ answered Script own }
+{
+    match own {
+        Ok(()) => Ok(0),
+        Err(fault) => Err(ToolFault::Script(fault)),
+    }
+}
+
+/// The answer after all tools were to be listed, since the words ask for none.
+fn listed(own: io::Result<()>) -> Result<u8, ToolFault>
+    ensures { result ≡ listed own }
+{
+    match own {
+        Ok(()) => Ok(BAD_INPUT),
+        Err(_) => Err(ToolFault::WriteFault),
     }
 }
 

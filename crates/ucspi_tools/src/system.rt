@@ -23,6 +23,9 @@ use std::time::Clock;
 use stream_tools::BetweenFailure;
 use stream_tools::started::SystemGiven;
 
+/// The descriptor of standard input.
+const STANDARD_INPUT: i32 = 0;
+
 /// Runs the program over the system, and answers its exit code. `errors` is standard error. Those tools that start
 /// threads are lent as calls that may be made at any time, since the system has threads in `main` alone. A stream that
 /// was left non-blocking is waited for.
@@ -90,6 +93,10 @@ where
 
     fn simulate(&mut self) -> Result<(), SimFault> {
         run_script(self.rt)
+    }
+
+    fn is_at_terminal(&self) -> bool {
+        libc::isatty(STANDARD_INPUT) == 1
     }
 
     fn install(&mut self, cdb: &str, tmp: &str, faulty: &mut Vec<u8>) -> Result<(), RulesFailure> {
