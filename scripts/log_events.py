@@ -12,9 +12,11 @@ The script also has the events that no line tells. The rules were opened before 
 a denied connection is a status line alone. If it may belong to several connections, the script takes one with which the other lines fit.
 
 Lines that do not fit are named on standard error, and the exit code is then 1. These are a number of connections that the events before don't
-give, an event without its status, and a line of no known form.
+give, an event without its status, and a line of no known form. If the log can't be read or the script can't be written, the exit code is 111.
 """
+import os
 import re
+import signal
 import sys
 
 NAME = b"tcpserver: "
@@ -44,6 +46,8 @@ FORMS = [
 BESIDE = re.compile(rb"cause: .*|listening on %s:%s|runs %s process %s" % (ADDRESS, DIGITS, DIGITS, DIGITS), re.S)
 # what is recorded of a client or a program may look like a line of the server
 RECORDED = re.compile(rb"\d+ [<>] ")
+# the most that `rulesim` takes, as the server does for `-m`
+MOST = 10000
 # the last line of these events is a status
 WITH_STATUS = ("pid", "end", "retired", "drop", "start")
 
@@ -263,15 +267,40 @@ class Events:
         return "admitted %d live %d retired %d most %d\n" % (self.admitted, self.last_live, self.retired, self.most)
 
 
+def say(text):
+    """Prints a line on standard error. If nobody can read it, the exit code alone says it."""
+    try:
+        os.write(2, (text + "\n").encode("utf-8", "replace"))
+    except OSError:
+        pass
+
+
+def end_with(kind, error):
+    """Reports an error of the system, as the tools do: the exit code."""
+    say("log_events: %s: %s" % (kind, os.strerror(error.errno)))
+    return 111
+
+
 def main():
-    if len(sys.argv) > 2 or (len(sys.argv) == 2 and not re.fullmatch("[0-9]{1,19}", sys.argv[1])):
-        print("usage: ucspi-log-events [PER] < log | ucspi rulesim", file=sys.stderr)
+    words = sys.argv[1:]
+    if len(words) > 1 or not all(re.fullmatch("[0-9]{1,19}", word) and 1 <= int(word) <= MOST for word in words):
+        say("usage: ucspi-log-events [PER] < log | ucspi rulesim")
         return 100
-    events = Events(sys.stdin.buffer.read(), int(sys.argv[1]) if len(sys.argv) == 2 else None)
-    sys.stdout.write(events.script())
-    sys.stdout.flush()
+    # (a reader that goes away ends it, as it ends other filters)
+    signal.signal(signal.SIGPIPE, signal.SIG_DFL)
+    try:
+        with open(0, "rb", closefd=False) as file:
+            log = file.read()
+    except OSError as error:
+        return end_with("read fault", error)
+    events = Events(log, *map(int, words))
+    try:
+        with open(1, "wb", closefd=False) as file:
+            file.write(events.script().encode())
+    except OSError as error:
+        return end_with("write fault", error)
     for fault in events.faults:
-        print("log_events: " + fault, file=sys.stderr)
+        say("log_events: " + fault)
     return 1 if events.faults else 0
 
 

@@ -451,6 +451,23 @@ def unit(checks, kitchen):
     checks.expect("rsync: systemd-analyze verify", (ended.returncode, ended.stdout), (0, ""))
 
 
+def texts(checks, kitchen):
+    """Neither cron's line nor one that somebody types lets a wrong text hold back another one, whatever their names; make then ends with its 2."""
+    folder = os.path.join(kitchen.examples, "rules")
+    for crontab in ("crontab", "crontab.strict"):
+        line = re.search(r"^(?:\S+ ){5}(make .*)$", kitchen.read("examples/rules/" + crontab), re.M).group(1).replace("/etc/tcpserver", folder)
+        for command in (line, line.replace(" -B", "")):
+            for path in os.listdir(folder):
+                if path.endswith((".rules", ".cdb")):
+                    os.unlink(os.path.join(folder, path))
+            for name, text in (("a", ":denied\n"), ("b", ":deny\n"), ("c", "10.0.0.1 deny\n:allow\n"), ("d", "10.:deny\n:allow\n")):
+                kitchen.write("examples/rules/%s.rules" % name, text)
+            ended = kitchen.run(command)
+            there = "".join(name for name in "abcd" if os.path.exists(os.path.join(folder, name + ".cdb")))
+            checks.expect("texts that %r compiles" % command.replace(folder, ""), (ended.returncode, there), (2, "bd" if "strict" in line else "bcd"))
+            checks.holds("texts of which it tells", "tcprules: line 1: no verdict\n" in ended.stdout, ended.stdout)
+
+
 def machines(checks, kitchen):
     """After each of the two ways every machine has the compiled file that this one has."""
     kitchen.needs("rsync", "sync")
@@ -466,9 +483,29 @@ def machines(checks, kitchen):
             same = kitchen.run("cmp examples/many/here.cdb machines/%s/rules.cdb" % host).stdout
             checks.expect("machines: %s after %s" % (host, way), same, "")
     kitchen.write("examples/many/rules", "192.0.2.66:denied\n")
-    told = kitchen.run("cd examples/many && ./compile-on-each 2>&1 | grep -c 'not installed'").stdout
-    checks.expect("machines: a faulty text is told of each", told.strip(), str(len(hosts)))
+    ended = kitchen.run("cd examples/many && ./compile-on-each")
+    told = [line for line in ended.stdout.splitlines() if line.endswith(": not installed")]
+    checks.expect("machines: a faulty text is told of each", (ended.returncode, told), (1, ["%s: not installed" % host for host in hosts]))
     checks.expect("machines: it changes nothing", kitchen.run("cmp examples/many/here.cdb machines/%s/rules.cdb" % hosts[0]).stdout, "")
+    # a machine that nobody reaches, wherever it stands in the list, and a last line without its end
+    kitchen.write("examples/many/rules", ":deny\n")
+    kitchen.run("cd examples/many && tcprules here.cdb here.tmp < rules")
+    for way in ("copy-compiled", "compile-on-each"):
+        for place in range(len(hosts) + 1):
+            listed = hosts[:place] + ["absent"] + hosts[place:]
+            for host in hosts:
+                kitchen.write("machines/%s/rules.cdb" % host, "")
+            kitchen.write("examples/many/hosts", "\n".join(listed))
+            ended = kitchen.run("cd examples/many && ./" + way)
+            told = [line for line in ended.stdout.splitlines() if line.endswith(": not installed")]
+            name = "machines: %s with %s" % (way, " ".join(listed))
+            checks.expect(name, (ended.returncode, told), (1, ["absent: not installed"]))
+            same = [host for host in hosts if not kitchen.run("cmp examples/many/here.cdb machines/%s/rules.cdb" % host).stdout]
+            checks.expect(name + ": where it went on", same, hosts)
+        kitchen.write("examples/many/hosts", "\n".join(hosts))
+        checks.expect("machines: %s with all of them" % way, kitchen.run("cd examples/many && ./" + way).returncode, 0)
+        os.unlink(os.path.join(kitchen.folder, "examples", "many", "hosts"))
+        checks.holds("machines: %s without a list" % way, kitchen.run("cd examples/many && ./" + way).returncode != 0)
 
 
 def names(checks, kitchen):
@@ -526,6 +563,7 @@ def over(checks, kitchen):
 # the recipes by what of them runs in Python; each title of the document has its lines run too
 SERVICES = {
     "From djb's in five minutes": [over],
+    "New rules under a running server": [texts],
     "A mail service under daemontools": [mail],
     "qmail, and POP3": [qmail, pop3],
     "Exim and Sendmail": [exim],

@@ -9,12 +9,15 @@ foreground is started at a free port of this machine alone, and ended once it li
 import os
 import re
 import shutil
+import socket
 import subprocess
+import sys
 import tempfile
 
 from documents.cookbook import COOKBOOKS, blocks
 from shared.checks import TOP, Checks
-from shared.server_runs import free_port, listens, wait_until
+from shared.failed_calls import can_trace
+from shared.server_runs import WAIT, free_port, listens, wait_until
 
 TOOLS = ("addcr", "delcr", "fixcrio", "recordio", "rulesim", "tcprules", "tcprulescheck", "tcpserver")
 
@@ -157,6 +160,34 @@ def check_document(checks, program, name):
         shell.close()
 
 
+def is_traced(number):
+    """Whether all threads of a process are traced."""
+    states = [read("/proc/%d/task/%s/status" % (number, thread)) for thread in os.listdir("/proc/%d/task" % number)]
+    return not any(re.search(r"^TracerPid:\t0$", state, re.M) for state in states)
+
+
+def check_traced(checks, program):
+    """The line that looks at a program prints nothing of one that asks nothing, though the server itself asks, and prints each question of another."""
+    if not can_trace():
+        print("documents: no strace that may be used here: the line that looks at a program was skipped", flush=True)
+        return
+    line = re.search(r"^    # (strace .*)$", read("docs/TCPSERVER.md"), re.M).group(1)
+    asking = [sys.executable, "-c", "import socket; print(socket.socket(fileno=0).getpeername()[0])"]
+    for words, asks, wanted in ((["echo", "hello"], False, b"hello\n"), (asking, True, b"127.0.0.1\n")):
+        port = free_port()
+        command = ["tcpserver", "-q", "127.0.0.1", str(port), *words]
+        with subprocess.Popen(command, executable=program, stdin=subprocess.DEVNULL, stdout=subprocess.DEVNULL, stderr=subprocess.DEVNULL) as server:
+            wait_until("a server", lambda port=port: listens(port))
+            by_number = line.replace('"$(pgrep -o -x tcpserver)"', str(server.pid))
+            with subprocess.Popen(["sh", "-c", by_number], stdin=subprocess.DEVNULL, stdout=subprocess.PIPE, stderr=subprocess.STDOUT) as traced:
+                wait_until("strace", lambda server=server: is_traced(server.pid))
+                with socket.create_connection(("127.0.0.1", port), WAIT) as client, client.makefile("rb") as answer:
+                    checks.expect("docs/TCPSERVER.md: a program that is traced", answer.read(), wanted)
+                server.terminate()
+                told = traced.communicate(timeout=WAIT)[0].decode()
+        checks.holds("docs/TCPSERVER.md: %s: of %s" % (line, words[0]), "getpeername(0, " in told if asks else told == "", told)
+
+
 def check_readme(checks):
     """Its length, its links, and what it may not be without."""
     text = read("README.md")
@@ -272,6 +303,7 @@ def check(program, failures):
     check_lengths(checks, "docs/internals", INTERNALS, ALL_WORDS["docs/internals"])
     check_glossary(checks)
     check_facts(checks)
+    check_traced(checks, os.path.abspath(program))
     for name in PAGES + ["README.md"]:
         check_sentences(checks, name)
     for name in DOCUMENTS + [*COOKBOOKS, "CHANGELOG.md"]:

@@ -4,6 +4,7 @@ import re
 import signal
 import subprocess
 import sys
+import tempfile
 import threading
 import time
 
@@ -289,9 +290,28 @@ def audits(suite):
         words = subprocess.run([sys.executable, script], input=log, stdout=subprocess.PIPE, stderr=subprocess.DEVNULL, timeout=server_runs.WAIT)
         ended = subprocess.run([suite.program, "rulesim"], input=words.stdout, stdout=subprocess.PIPE, timeout=server_runs.WAIT)
         suite.expect("the log %r" % log[:300], (ended.stdout.decode().strip(), words.returncode), (wanted, code))
-    for per in ("9" * 5000, "²", "-1", ""):
+    for per in ("9" * 5000, "²", "-1", "", "0", "00", "10001"):
         words = subprocess.run([sys.executable, script, per], input=head, stdout=subprocess.PIPE, stderr=subprocess.PIPE, timeout=server_runs.WAIT)
         suite.expect("a limit of %r" % per[:9], (words.returncode, words.stderr[:6], words.stdout), (100, b"usage:", b""))
+    # streams that can't be used: one line, the exit code of the tools, and no words of Python
+    whole = head + ok + end + free
+    broken = [
+        ("<&-", 111, "log_events: read fault: Bad file descriptor\n"), ("0>written", 111, "log_events: read fault: Bad file descriptor\n"),
+        (">/dev/full", 111, "log_events: write fault: No space left on device\n"), (">&-", 111, "log_events: write fault: Bad file descriptor\n"),
+        ("| sleep 0", 128 + signal.SIGPIPE, ""), (">script 2>&-", 0, ""), (">/dev/full 2>/dev/full", 111, ""),
+    ]
+    with tempfile.TemporaryDirectory() as folder:
+        for streams, code, said in broken:
+            # (a log that is longer than a pipe holds, of which the reader sees nothing)
+            given = head + ok * 20000 if "|" in streams else whole
+            words = ["bash", "-c", '"$@" %s; exit ${PIPESTATUS[0]}' % streams, "bash", sys.executable, script]
+            ended = subprocess.run(words, input=given, cwd=folder, stdout=subprocess.PIPE, stderr=subprocess.PIPE, timeout=server_runs.WAIT)
+            suite.expect("the log reader with " + streams, (ended.returncode, ended.stdout, ended.stderr.decode()), (code, b"", said))
+    # its messages about lines keep out of the script, and out of the exit code
+    for streams in ("2>&-", "2>/dev/full"):
+        words = ["bash", "-c", '"$@" %s' % streams, "bash", sys.executable, script]
+        ended = subprocess.run(words, input=head + free, stdout=subprocess.PIPE, timeout=server_runs.WAIT)
+        suite.expect("the log reader with a fault and " + streams, (ended.returncode, ended.stdout), (1, b"events 1\nevent admitted 1 1.1.1.1\nreplay\n"))
     # the checks of this version's logs pass over nothing
     whole, longer = [head + ok + b"sh: 1: " + log_forms.log(log_forms.end(1, "signal") + more) + free for more in ("", " more")]
     suite.expect("ends of this version", (log_forms.events_of(whole).faults, len(log_forms.events_of(longer).faults)), ([], 1))
