@@ -11,7 +11,7 @@
 # make uninstall  takes them away, and no file of others
 # make dist       packs an archive for x86-64 Linux with glibc into dist/, and its SHA-256
 # make deb        packs a Debian package into dist/, which stands beside Debian's ucspi-tcp
-# make check      proves everything from nothing in forty minutes or more (two hours of a processor), and runs all tests
+# make check      proves everything from nothing in forty minutes or more (one or two hours of a processor), and runs all tests
 # make edits      tries the edits of tests/edits, which the prover has to refuse: an hour or two, before a release
 # make bench      times the tools and the server, and measures their memory
 # make clean      takes away all that was built, proofs too
