@@ -51,6 +51,10 @@ def faults_of_the_start(suite):
     absent = suite.path("absent")
     told(suite, "no host table", ["-N", absent] + SERVE, 111, "read fault", absent + ": No such file or directory")
     told(suite, "a folder as host table", ["-N", suite.folder] + SERVE, 111, "read fault", suite.folder + ": Is a directory")
+    for path in (suite.folder + "/", suite.folder + "/.", suite.folder + "/.."):
+        told(suite, "a folder as rules, " + path, ["-x", path] + SERVE, 111, "device fault", suite.folder + ": Is a directory")
+    for path in (absent + "/", absent + "/rules.cdb"):
+        told(suite, "rules in no folder, " + path, ["-x", path] + SERVE, 111, "device fault", absent + ": No such file or directory")
     with socket.socket() as taken:
         taken.bind(("127.0.0.1", 0))
         taken.listen(1)
@@ -149,7 +153,7 @@ NAMES = "rules by name, and no names"
 
 
 def named_rules(suite):
-    """Rules by a host's or a user's name decide nobody without a host table: under -v the log begins by that."""
+    """Rules by a host's or a user's name decide nobody without a host table, or if clients get no names of it: under -v the log begins by that."""
     table = suite.path("hosts", "127.0.0.1 a.example\n")
     for text, told in (
         ("=a.example:deny\n:allow\n", True), ("=.example:deny\n:allow\n", True), ("=:allow\n:deny\n", True),
@@ -158,7 +162,7 @@ def named_rules(suite):
         ("".join("10.%d.%d.%d:deny\n" % (n >> 16, n >> 8 & 255, n & 255) for n in range(5000)) + "=x:allow\n:allow\n", True),
     ):
         path = suite.install(text, "named.cdb")
-        for options, may in ((["-v"], True), (["-Q"], False), (["-q"], False), (["-v", "-N", table], False)):
+        for options, may in ((["-v"], True), (["-Q"], False), (["-q"], False), (["-v", "-N", table], False), (["-v", "-HN", table], True)):
             with suite.start(options + ["-c", "1", "-k", "1", "-x", path], ["true"]) as server:
                 server.ask()
                 suite.expect("the end under %r" % options, server.end(), 0)

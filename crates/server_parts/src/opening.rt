@@ -1,5 +1,5 @@
 //! What a server opens before it begins: its files, folder, socket and program.
-ghost use Rattle.std.specs.Prelude.{◌≡◌, ◌⊎◌, [], map, option_map, string_bytes, IsTrue, IfOk, IfErr, Some};
+ghost use Rattle.std.specs.Prelude.{◌≡◌, ◌⊎◌, [], map, string_bytes, IsTrue, IfOk, IfErr, Some};
 ghost use Rattle.server_parts.specs.Asked.{FailsNames, FailsRules, IsAskedPlan};
 ghost use Rattle.server_parts.specs.Services.{AreNamesOf, AreRulesOf};
 ghost use Rattle.server_parts.specs.declared.fault.ServerFault.TheVariants.{CannotListen, WriteFault};
@@ -97,21 +97,23 @@ pub fn find_rules<R: Files>(
         return Ok(None);
     };
     let (folder, name) = split_path(path);
-    let name = match Name::new(alloc, name.as_bytes()) {
-        Ok(name) => name,
-        Err(NameFault::OutOfMemory) => return Err(ServerFailure::from(ServerFault::OutOfMemory)),
-        Err(_) => return Err(ServerFailure::from(ServerFault::Device)),
-    };
-    match find_folder(files, folder_path(folder)) {
-        Ok(()) => Ok(Some((name, words.missing()))),
-        Err(refused) => {
-            let fault = match refused.fault {
-                FolderFault::OutOfMemory => ServerFault::OutOfMemory,
-                FolderFault::NoFolder | FolderFault::Device => ServerFault::Device,
-            };
-            let error = refused.error;
-            Err(ServerFailure { fault, error })
-        }
+    if let Err(refused) = find_folder(files, folder_path(folder)) {
+        let fault = match refused.fault {
+            FolderFault::OutOfMemory => ServerFault::OutOfMemory,
+            FolderFault::NoFolder | FolderFault::Device => ServerFault::Device,
+        };
+        let error = refused.error;
+        return Err(ServerFailure { fault, error });
+    }
+    match Name::new(alloc, name.as_bytes()) {
+        Ok(name) => Ok(Some((name, words.missing()))),
+        Err(NameFault::OutOfMemory) => Err(ServerFailure::from(ServerFault::OutOfMemory)),
+        // (a path that ends with a slash, or by one or two dots, leads to a folder)
+        Err(NameFault::Empty | NameFault::Dots) => Err(ServerFailure {
+            fault: ServerFault::Device,
+            error: Some(libc::EISDIR),
+        }),
+        Err(_) => Err(ServerFailure::from(ServerFault::Device)),
     }
 }
 

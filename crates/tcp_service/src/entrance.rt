@@ -108,10 +108,33 @@ where
 
     fn admit(&mut self, came: Option<Accepted<H::Holder>>) -> LetIn<'a, H> {
         let server = self.server;
+        let context = &server.context;
         let Some(accepted) = came else {
-            return lack_memory(&server.context);
+            return lack_memory(context);
         };
-        let_in(server, &mut self.admitter, &mut self.seen.spent, accepted)
+        let Ok((peer, local)) = ends_of(context.alloc, &server.service.names, &accepted) else {
+            drop(accepted);
+            return lack_memory(context);
+        };
+        match admit(context, &mut self.admitter, &mut self.seen.spent, &peer) {
+            AdmitOutcome::In((serial, place, made)) => AdmitOutcome::In(Admitted {
+                server,
+                serial,
+                place,
+                peer,
+                local,
+                streams: ClientStreams::of(accepted),
+                made: Snapshot::of(&made),
+            }),
+            AdmitOutcome::Refused(refusal) => {
+                let_go(accepted, peer, local);
+                AdmitOutcome::Refused(Refused::BySite(refusal))
+            }
+            AdmitOutcome::Spent => {
+                let_go(accepted, peer, local);
+                AdmitOutcome::Spent
+            }
+        }
     }
 
     fn has_places(&mut self) -> bool {
@@ -143,42 +166,6 @@ fn lack_memory<G: AgentGround, W>(context: &AgentContext<'_, G>) -> AdmitOutcome
 {
     let _ = context.log.lock(context.rt).out_of_memory();
     AdmitOutcome::Refused(Refused::OutOfMemory)
-}
-
-// Lets a connection in; one that is refused is closed.
-fn let_in<'a, H: Host>(
-    server: &'a Server<'a, H>,
-    admitter: &mut CallerOf<H>,
-    spent: &mut Option<NoNumbers>,
-    accepted: Accepted<H::Holder>,
-) -> LetIn<'a, H>
-    ensures came { LetsIn result (caller_share admitter.old) (caller_share admitter.new) }
-    ensures spent { OnSpent result (IsTrue (is_some spent.new)) }
-{
-    let context = &server.context;
-    let Ok((peer, local)) = ends_of(context.alloc, &server.service.names, &accepted) else {
-        drop(accepted);
-        return lack_memory(context);
-    };
-    match admit(context, admitter, spent, &peer) {
-        AdmitOutcome::In((serial, place, made)) => AdmitOutcome::In(Admitted {
-            server,
-            serial,
-            place,
-            peer,
-            local,
-            streams: ClientStreams::of(accepted),
-            made: Snapshot::of(&made),
-        }),
-        AdmitOutcome::Refused(refusal) => {
-            let_go(accepted, peer, local);
-            AdmitOutcome::Refused(Refused::BySite(refusal))
-        }
-        AdmitOutcome::Spent => {
-            let_go(accepted, peer, local);
-            AdmitOutcome::Spent
-        }
-    }
 }
 
 // Closes a connection that was not let in.

@@ -156,13 +156,41 @@ impl<'a, H: Host> Admitted<'a, H> {
             H.Job.program H.Job.environment H.Job.killed H.Job.refused_wait H.Job.ended self.entry.serial
             (asked over.last.value)) }
     {
-        let server = self.server;
-        let Ok(chains) = chains_of(server.context.alloc, server.service) else {
+        let (alloc, service) = (self.server.context.alloc, self.server.service);
+        let Ok(chains) = chains_of(alloc, service) else {
             return Err(self.give_up(DropCause::Memory));
         };
-        match self.serve() {
-            Ok((started, streams)) => started.go_on().pass_on(streams, chains),
-            Err(over) => Err(over),
+        let Admitted {
+            server,
+            serial,
+            place,
+            peer,
+            local,
+            mut streams,
+            made: _,
+        } = self;
+        match server.serve(serial, place, &peer, &local, &mut streams) {
+            Ok((running, found)) => {
+                let alive = Alive {
+                    server,
+                    serial,
+                    running,
+                    local,
+                    downward: None,
+                };
+                let kept = Snapshot::of(&peer);
+                drop(peer);
+                let peer = kept;
+                let started = Started { alive, peer, found };
+                started.go_on().pass_on(streams, chains)
+            }
+            Err(over) => {
+                drop(chains);
+                streams.end();
+                drop(local);
+                drop(peer);
+                Err(over)
+            }
         }
     }
 
@@ -188,53 +216,6 @@ impl<'a, H: Host> Admitted<'a, H> {
         drop(local);
         drop(peer);
         over
-    }
-
-    // It is served up to the start of its program, by `serve_one`.
-    fn serve(self) -> Result<(Started<'a, H>, ClientStreams<H::Holder>), Over>
-        ensures own { IfOk result (λ started. (started.0.alive.serial ≡ self.entry.serial)
-            × (place_of started.0.alive.running ≡ self.entry.place)) }
-        ensures child { IfOk result (λ started. IsDecidedChild
-            (IsFoundFor H.Places.met (H.Rules.gives self.entry.server.now.context.rules.now) H.Handle.opened self.entry.serial)
-            H.File.honest H.File.sound self.entry.peer self.entry.local self.entry.server.now.context.plan.now
-            (H.Job.program (job_of started.0.alive.running)) (H.Job.environment (job_of started.0.alive.running))) }
-        ensures over { IfErr result (λ over. over.serial ≡ self.entry.serial) }
-        ensures reason { IfErr result (λ over. EndsWithReason
-            (IsFoundFor H.Places.met (H.Rules.gives self.entry.server.now.context.rules.now) H.Handle.opened self.entry.serial)
-            H.File.honest H.File.sound self.entry.peer self.entry.local self.entry.server.now.context.plan.now
-            (H.Starter.refuses self.entry.server.now.starter.now self.entry.streams.shut) self.entry.serial
-            (asked over.last.value)) }
-    {
-        let Admitted {
-            server,
-            serial,
-            place,
-            peer,
-            local,
-            mut streams,
-            made: _,
-        } = self;
-        match server.serve(serial, place, &peer, &local, &mut streams) {
-            Ok((running, found)) => {
-                let alive = Alive {
-                    server,
-                    serial,
-                    running,
-                    local,
-                    downward: None,
-                };
-                let kept = Snapshot::of(&peer);
-                drop(peer);
-                let peer = kept;
-                Ok((Started { alive, peer, found }, streams))
-            }
-            Err(over) => {
-                streams.end();
-                drop(local);
-                drop(peer);
-                Err(over)
-            }
-        }
     }
 }
 

@@ -1,8 +1,7 @@
 //! The line wrappers of a connection whose bytes are passed on.
-ghost use Rattle.std.specs.Prelude.{◌≡◌, ◌↔◌, IfOk, IfSome, false, is_some, true};
+ghost use Rattle.std.specs.Prelude.{◌≡◌, ◌↔◌, IfOk, IfSome, is_some, true};
 ghost use Rattle.server_words.specs.declared.mode.Mode.TheVariants.{Pumped};
-ghost use Rattle.tcp_service.specs.Wrappers.{IsNewChain, WrapsBy, changed_by, told_by};
-ghost use Rattle.byte_streams.specs.Chains.{has_failed};
+ghost use Rattle.tcp_service.specs.Wrappers.{IsNewChain, changed_by, told_by};
 
 use crate::server::Service;
 use byte_streams::{AddCr, Chain, DelCr, FixCr, LineWrapper};

@@ -262,7 +262,8 @@ fn run_site<'a, L: Assumptions + Send + Sync, N: Callers + Send + Sync, P: Syste
         path,
         name,
     };
-    if words.hosts().is_none() && words.level() == Level::All && at.name_someone(alloc) {
+    let has_names = words.hosts().is_some() && words.names_remote();
+    if !has_names && words.level() == Level::All && at.name_someone(alloc) {
         let _ = server.log.lock(rt).no_names();
     }
     let yard = yard_of::<L>(alloc, rules, words, places)?;
