@@ -29,8 +29,7 @@ PROBES := $(addprefix crates/test_programs/out/,$(SMALL))
 # both, built without proofs
 TRIED := out/try/ucspi
 TRIED_PROBE := out/try/test_programs
-# how many checks run side by side: one for each processor, but no more than one for each 4 GB of free memory, twice what the largest takes.
-# Each has one processor; with several it takes a third more processor time in all
+# how many processors the checks have: all, but no more than one for each 4 GB of free memory, twice what the largest check takes on one
 RT_JOBS ?= $(shell awk -v most=$$(nproc) '/^MemAvailable/ { room = int($$2 / 4000000); print room < 1 ? 1 : room < most ? room : most }' /proc/meminfo)
 SOURCES := HANDLES crates.txt $(shell find crates -name out -prune -o -type f -print)
 
