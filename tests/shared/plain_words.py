@@ -87,9 +87,9 @@ def fault_of_words(words, folder):
     to be one."""
     options = {}
     text, code = first_fault(words, folder, options)
-    # of a path that ends in no name the system was asked for nothing
-    is_asked = text != "device fault" or ends_in_name(options["x"])
-    is_told = options.get("v") == "v" and (code == 111 and is_asked or text == USAGE)
+    # a name that is too long is no error of the system, if its folder is there
+    is_known = text != "device fault" or not is_in_folder(options["x"], folder) or ends_in_folder(options["x"])
+    is_told = options.get("v") == "v" and (code == 111 and is_known or text == USAGE)
     return text, code, (NO_WORD if code == 100 else SYSTEM) if is_told else None
 
 
@@ -121,16 +121,21 @@ def first_fault(words, folder, options):
     return "cannot listen", 111
 
 
-def ends_in_name(path):
-    """Whether a path ends in what may be the name of a file."""
-    name = path.rpartition("/")[2]
-    return 0 < len(name.encode()) < 256 and name not in (".", "..")
+def ends_in_folder(path):
+    """Whether a path ends in what is a folder's, and no name of a file."""
+    return path.rpartition("/")[2] in ("", ".", "..")
+
+
+def is_in_folder(path, folder):
+    """Whether the folder is there that a path leads through."""
+    before, slash, _ = path.rpartition("/")
+    return os.path.isdir(os.path.join(folder, before + "/" if slash else "."))
 
 
 def is_rules_path(path, folder):
     """Whether a path ends in a name, in a folder that is there."""
-    before, slash, _ = path.rpartition("/")
-    return ends_in_name(path) and os.path.isdir(os.path.join(folder, before + "/" if slash else "."))
+    name = path.rpartition("/")[2]
+    return is_in_folder(path, folder) and not ends_in_folder(path) and len(name.encode()) < 256
 
 
 # host tables
