@@ -18,7 +18,9 @@ BOUND = 60
 ALL = 600
 SLACK = 30
 MORE = 8
-# bytes: what the system may have on its way to a client, and does not lose
+# bytes: the buffer that the system has for what is sent to a client that takes a little, where it would else take more and more; and what may be on its
+# way to that client, and is not lost
+BUFFER = 16384
 HELD = 80000
 SILENT, OTHER = "127.0.0.2", "127.0.0.3"
 # one client's program writes until it is stopped, with more on its way than anything takes; all others are greeted
@@ -144,7 +146,7 @@ def too_slow_in_all(suite):
     """Who takes a little every twenty seconds loses what is left after 600 in all: in a server whose time passes ten times as fast."""
     fast = 10
     path = suite.path("too-slow")
-    variables = failed_calls.in_fast_time(suite.folder, fast)
+    variables = dict(failed_calls.in_fast_time(suite.folder, fast), SEND_BUFFER=str(BUFFER))
     # (its own second, after which it gives up, is a whole one: so much is left that the system can't hold it for the client)
     fill = ["env", "-u", "LD_PRELOAD", suite.compiled("server/server_given.c"), "fill", path]
     with suite.start(["-v", "-c", "1"], fill, env=variables) as server, small(server, SILENT, 2048, 500) as client:

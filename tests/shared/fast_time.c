@@ -1,5 +1,6 @@
 /* A library to load before the C library: time passes FAST_TIMES times as fast for a program, on the clock that only goes forward, in its sleeps, and in
-   the times after which a write to a socket is given up. Programs that are started meet none of this. */
+   the times after which a write to a socket is given up. With SEND_BUFFER the system keeps about so many bytes for each client that is accepted, and not
+   more and more of them. Programs that are started meet none of this. */
 #define _GNU_SOURCE
 #include <dlfcn.h>
 #include <stdlib.h>
@@ -11,6 +12,7 @@
 
 static const long long second = 1000000000;
 static long long times = 1, began;
+static int room;
 
 static long long now(void)
 {
@@ -24,7 +26,10 @@ __attribute__((constructor)) static void begin(void)
     const char *value = getenv("FAST_TIMES");
     times = value ? atoll(value) : 1;
     began = now();
+    value = getenv("SEND_BUFFER");
+    room = value ? atoi(value) : 0;
     unsetenv("FAST_TIMES");
+    unsetenv("SEND_BUFFER");
     unsetenv("LD_PRELOAD");
 }
 
@@ -43,6 +48,14 @@ int nanosleep(const struct timespec *time, struct timespec *left)
     long long all = (time->tv_sec * second + time->tv_nsec) / times;
     struct timespec shorter = {all / second, all % second};
     return (int)syscall(SYS_nanosleep, &shorter, left);
+}
+
+/* What is accepted has the buffers of what listens. */
+int listen(int a, int waiting)
+{
+    if (room > 0 && syscall(SYS_setsockopt, a, SOL_SOCKET, SO_SNDBUF, &room, sizeof room) != 0)
+        return -1;
+    return (int)syscall(SYS_listen, a, waiting);
 }
 
 int setsockopt(int a, int level, int name, const void *value, socklen_t size)
