@@ -213,14 +213,32 @@ def taken_after_a_look(folder):
 
 
 def another_scratch_file(folder):
-    """A scratch file that somebody takes away, and another one in its place: the rules are the old ones, and the other file stays there."""
-    for name, put, why in (("none", lambda: None, "No such file or directory"), ("another", lambda: folder.leave_scratch(0o600), "Stale file handle")):
+    """A scratch file that somebody takes away, puts another one in its place, or renames rules onto: the rules are the old ones, and what was put there
+    stays there, byte by byte."""
+    path = folder.path(SCRATCH)
+
+    def rename_onto():
+        folder.expect("rules under that name", folder.install(words=(SCRATCH, "t"))[:2], (0, ""))
+
+    def put_another():
+        os.unlink(path)
+        folder.leave_scratch(0o600)
+
+    for name, put, why, left in (
+        ("none", lambda: os.unlink(path), "No such file or directory", ["rules"]),
+        ("another", put_another, "Stale file handle", ["rules", SCRATCH]),
+        ("rules of another", rename_onto, "Stale file handle", ["rules", SCRATCH]),
+    ):
         process = folder.start(words=("-v", "rules", SCRATCH), before=slow("fsync", 2))
-        come_to("the scratch file", lambda: is_written(folder.path(SCRATCH)))
-        os.unlink(folder.path(SCRATCH))
+        come_to("the scratch file", lambda: is_written(path))
         put()
+        there = folder.rules(SCRATCH) if SCRATCH in left else None
         folder.expect(name, folder.end(process), (111, "tcprules: device fault at named\ntcprules: cause: tmp: %s\n" % why))
         folder.expect(name + ": the rules then", folder.rules() == folder.old, True)
+        folder.expect(name + ": what stands there", sorted(os.listdir(folder.place)), left)
+        if there is not None:
+            folder.expect(name + ": as it was put there", folder.rules(SCRATCH) == there, True)
+            os.unlink(path)
 
 
 def slow(call, when, how="delay_enter", of=()):

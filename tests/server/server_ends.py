@@ -217,11 +217,11 @@ def no_descriptors(suite):
         late.settimeout(server_runs.WAIT)
         for client in first + clients[:3]:
             client.close()
-        # it is taken once a connection ends, though there may be too few descriptors for its program
-        got = late.recv(3)
-        suite.holds("a client that waited for a descriptor", got in (b"hi\n", b""), got)
-        late.close()
+        # (it may be accepted as soon as a connection ends, and then its program waits too)
+        time.sleep(0.3)
         resource.prlimit(number, resource.RLIMIT_NOFILE, before)
+        suite.expect("a client that waited for a descriptor", late.recv(3), b"hi\n")
+        late.close()
         wait_for_answer(server, "after the lack")
         clients[3].sendall(b"\n")
         suite.expect("the one that ran all the time", read_all(clients[3]), b"")

@@ -1,7 +1,7 @@
 -- Texts that go through wrappers one behind the other.
-use Rattle.std.proofs.Common.{◌≡◌, ℕ, zero, suc, ◌+◌, ◌<◌, ◌≤◌, List, [], ◌∷◌, ◌++◌, length, take, drop, map, set, get_or, refl, sym, ap, subst, ◌∙◌, arith, add-one, drop-cons, take-suc-set, length-set}
+use Rattle.std.proofs.Common.{◌≡◌, ℕ, zero, suc, ◌+◌, ◌<◌, List, [], ◌∷◌, ◌++◌, length, take, drop, map, set, get_or, refl, sym, ap, subst, ◌∙◌, arith, add-one, drop-cons, take-suc-set, length-set}
 use Rattle.std.proofs.lemmas.List.{drop-set-lt, drop_all, take_all}
-use Rattle.std.specs.Prelude.{Err, Ok, OnOk, Result}
+use Rattle.std.specs.Prelude.{Err, Ok, OnOk, Result, if◌then◌else◌, is_ok}
 use Rattle.std.specs.declared.alloc.AllocError.{AllocError}
 use Rattle.std.proofs.Math.Seq.{take-append_seam}
 use Rattle.byte_streams.specs.Wrappers.{Feeds, through}
@@ -81,6 +81,12 @@ module _ {S : Type 0} {V : Type 0} (f : S → V) where
 -- ---- the same, of a wrapper as a loop finds it
 
 module _ {S : Type 0} where
+  -- no wrappers copy a piece
+  pub flow_none : (result : Result (Unit {0}) AllocError) (wrappers : List S) (rest : S → List ℕ → List ℕ) (piece before after : List ℕ) → length wrappers ≡ 0 → after ≡ (if is_ok result then before ++ piece else before) → OnOk result (Feeds (through rest wrappers) (through rest wrappers) piece before after)
+  flow_none (Err _) wrappers rest piece before after none is = tt
+  flow_none (Ok _) [] rest piece before after none is = record { given = piece; added = is; gives = λ later. refl }
+  flow_none (Ok _) (wrapper ∷ wrappers) rest piece before after none is = absurd (omega arith)
+
   pub wholes_more : {V : Type 0} (olds news : List S) (position : ℕ) (d s : S) (f : S → V) → f s ≡ f (get_or news position d) → map f news ≡ map f olds → map f (set news position s) ≡ map f olds
   wholes_more olds news position d s f same so_far = map-set f news position d s same ∙ so_far
 

@@ -35,13 +35,16 @@ impl Watch {
         let events = Events::with_capacity(alloc, EVENTS).ok()?;
         let poll = Poll::new(net).ok()?;
         let registry = poll.registry();
-        registry
+        // (whatever the pipe's interest, an event tells that nobody reads it any more)
+        let watches = registry
             .register(&mut SourceFd(&input), INPUT, Interest::READABLE)
-            .ok()?;
-        // (whatever the interest, an event tells that nobody reads the pipe any more)
-        registry
-            .register(&mut SourceFd(&pipe), PIPE, Interest::PRIORITY)
-            .ok()?;
+            .is_ok()
+            && registry
+                .register(&mut SourceFd(&pipe), PIPE, Interest::PRIORITY)
+                .is_ok();
+        if !watches {
+            return None;
+        }
         Some(Watch {
             poll,
             events,

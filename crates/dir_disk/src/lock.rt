@@ -4,7 +4,7 @@
 //! A file is claimed by an exclusive lock of its first byte. The lock lasts until the file is closed, by this process
 //! or, if that is killed, by the system. A file without a lock was left by a killed process, and is taken away while
 //! this process locks it. Only who may write a file can have such a lock.
-use crate::system_disk::is_same;
+use crate::system_disk::{Identity, is_same, stale};
 use os::RangeLock;
 use std::fs::{File, Files, Metadata, OpenOptions, Permissions};
 use std::io::{self, ErrorKind, Read};
@@ -59,7 +59,7 @@ pub(crate) fn make_claimed<R: Files<File = File>>(
         Err(error) if is_taken(&error) => {}
         outcome => return outcome,
     }
-    match take_free(files, path) {
+    match take_free(files, path, None) {
         Err(error) if error.kind() != ErrorKind::NotFound => Err(error),
         _ => make_held(files, path, mode),
     }
@@ -135,13 +135,21 @@ pub(crate) fn check_file(found: &Metadata) -> io::Result<()> {
     Err(io::Error::from_raw_os_error(error))
 }
 
-/// Takes away what stands at a path, if it is a file that no process has. Anything but a file is left there. It has no
-/// lock by which two processes could agree which of them takes it away, so one might take away the other's new file.
+/// Takes away what stands at a path, if it is a file that no process has; where one is named, only that one. Anything
+/// but a file is left there. It has no lock by which two processes could agree which of them takes it away, so one might
+/// take away the other's new file.
 ///
 /// # Errors
-/// `NotFound` if nothing stands there; `WouldBlock` if another process has the file; others of the system.
-pub(crate) fn take_free<R: Files<File = File>>(files: &R, path: &str) -> io::Result<()> {
-    check_file(&files.symlink_metadata(path)?)?;
+/// `NotFound` if nothing stands there; `WouldBlock` if another process has the file; that of `stale` if it is another
+/// file than is named; others of the system.
+pub(crate) fn take_free<R: Files<File = File>>(
+    files: &R,
+    path: &str,
+    only: Option<Identity>,
+) -> io::Result<()> {
+    let found = files.symlink_metadata(path)?;
+    check_file(&found)?;
+    check_wanted(&found, only)?;
     // (if a pipe was put there meanwhile, opening it to read and write does not wait)
     let opened = OpenOptions::new().read(true).write(true).open(files, path);
     let file = unless_taken(opened, ErrorKind::PermissionDenied)?;
@@ -150,7 +158,16 @@ pub(crate) fn take_free<R: Files<File = File>>(files: &R, path: &str) -> io::Res
     {
         return Err(taken());
     }
+    check_wanted(&file.metadata()?, only)?;
     files.remove_file(path)
+}
+
+// Checks that a file that was looked at is the one that is named, if one is.
+fn check_wanted(found: &Metadata, only: Option<Identity>) -> io::Result<()> {
+    match only {
+        Some(only) if only != Identity::of(found) => Err(stale()),
+        _ => Ok(()),
+    }
 }
 
 // Locks a file, if no other process has a lock in the way, and answers whether it is locked and still stands at its

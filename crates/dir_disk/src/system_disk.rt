@@ -51,8 +51,8 @@ pub struct SystemDisk<R: Drop, W: Drop> {
     onto: String,
     // the permissions that the file which was made last gets once it is complete, if it was made with others
     mode: Option<u32>,
-    // whether this process made a file
-    made: bool,
+    // the file that was made last
+    made: Option<Identity>,
     pub(crate) notes: Notes,
 }
 
@@ -91,7 +91,7 @@ impl<R: Files<File = File> + Drop, W: Waits + Drop> SystemDisk<R, W> {
             path: String::with_capacity(alloc, length)?,
             onto: String::with_capacity(alloc, length)?,
             mode: None,
-            made: false,
+            made: None,
             notes: Notes::new(alloc)?,
         })
     }
@@ -129,7 +129,7 @@ impl<R: Files<File = File> + Drop, W: Waits + Drop> SystemDisk<R, W> {
             Err(error) => is_taken(error),
             Ok(_) => false,
         };
-        if taken && !self.made && self.waits.wait() {
+        if taken && self.made.is_none() && self.waits.wait() {
             return None;
         }
         let on = if taken {
@@ -140,12 +140,13 @@ impl<R: Files<File = File> + Drop, W: Waits + Drop> SystemDisk<R, W> {
         Some(self.notes.note(on, outcome))
     }
 
-    // Takes away what stands under a name.
+    // Takes away what stands under a name; after a file was made, that file alone. Somebody may have put another one
+    // there meanwhile, and have been told that it stands there for good.
     fn take_away(&mut self, name: &Name) -> io::Result<()> {
         put_path(&mut self.path, self.folder.as_str(), name)?;
         for _ in 0..TRIES {
             self.see_folder()?;
-            let outcome = take_free(&self.files, self.path.as_str());
+            let outcome = take_free(&self.files, self.path.as_str(), self.made);
             if let Some(outcome) = self.answer(outcome) {
                 return outcome;
             }
@@ -174,9 +175,9 @@ impl<R: Files<File = File> + Drop, W: Waits + Drop> SystemDisk<R, W> {
             first = HIDDEN;
             self.mode = Some(mode & !mask);
         }
-        let outcome = make_claimed(&self.files, self.path.as_str(), first);
-        self.made |= outcome.is_ok();
-        outcome
+        let file = make_claimed(&self.files, self.path.as_str(), first)?;
+        self.made = Some(Identity::of(&file.metadata()?));
+        Ok(file)
     }
 
     // Moves one name onto another, if it stands for this file.
@@ -200,21 +201,42 @@ impl<R: Files<File = File> + Drop, W: Waits + Drop> SystemDisk<R, W> {
     }
 }
 
+/// Which file one is: its device, and its number there.
+#[derive(Clone, Copy, PartialEq, Eq)]
+pub(crate) struct Identity {
+    device: u64,
+    inode: u64,
+}
+
+impl Identity {
+    /// That of a file that was looked at.
+    pub(crate) fn of(found: &Metadata) -> Identity {
+        Identity {
+            device: found.dev(),
+            inode: found.ino(),
+        }
+    }
+}
+
 /// Whether what was opened is what stands at a path, by device and number.
 pub(crate) fn is_same(
     opened: io::Result<Metadata>,
     stands: io::Result<Metadata>,
 ) -> io::Result<bool> {
-    let (opened, stands) = (opened?, stands?);
-    Ok(opened.dev() == stands.dev() && opened.ino() == stands.ino())
+    Ok(Identity::of(&opened?) == Identity::of(&stands?))
 }
 
-// Checks that it is. Something else is reported by the system's error for a file of a folder that is gone.
+/// The error if it is something else: the system's for a file of a folder that is gone.
+pub(crate) fn stale() -> io::Error {
+    io::Error::from_raw_os_error(STALE)
+}
+
+// Checks that it is.
 fn check_same(opened: io::Result<Metadata>, stands: io::Result<Metadata>) -> io::Result<()> {
     if is_same(opened, stands)? {
         Ok(())
     } else {
-        Err(io::Error::from_raw_os_error(STALE))
+        Err(stale())
     }
 }
 
@@ -271,7 +293,7 @@ impl<R: Files<File = File> + Drop, W: Waits + Drop> Disk for SystemDisk<R, W> {
         self.see_folder()?;
         let outcome = match &self.opened {
             Some(folder) => folder.sync_all(),
-            None => Err(io::Error::from_raw_os_error(STALE)),
+            None => Err(stale()),
         };
         self.notes.note(FailedOn::Folder, outcome)
     }

@@ -297,11 +297,15 @@ is_or_not i j = grind arith
 begun_own : (w : Shared) → AreBegun w → AllOwn w
 begun_own w begun i is_open = subst (λ p. OwnPhase (w.run i) w.files p) (sym (begun.each i).0) tt
 
+-- the run that made a step has it, and any other one
+own_of : (v : Shared) (i j : ℕ) → HasOwn (v.run i) v.files → (j ≢ i → HasOwn (v.run j) v.files) → (j ≡ i) ⊎ (j ≢ i) → HasOwn (v.run j) v.files
+own_of v i j own rest (inl is) = subst (λ k. HasOwn (v.run k) v.files) (sym is) own
+own_of v i j own rest (inr other) = rest other
+
 steps_own : (name : List ℕ) (i : ℕ) (w v : Shared) → AllOwn w → RunSteps name i w v → AllOwn v
-steps_own name i w v all steps j = ⊎_elim
-    (λ is. subst (λ k. HasOwn (v.run k) v.files) (sym is) (own_keeps w v i (all i) steps.result steps.step))
-    (λ other. spared_has (w.run j) (v.run j) w.files v.files (steps.others j other) (all j))
-    (is_or_not j i)
+steps_own name i w v all steps j =
+    own_of v i j (own_keeps w v i (all i) steps.result steps.step)
+    (λ other. spared_has (w.run j) (v.run j) w.files v.files (steps.others j other) (all j)) (is_or_not j i)
 
 pub beside_own : (name : List ℕ) (u w : Shared) → AreBegun u → Beside name u w → AllOwn w
 beside_own name u w begun none = begun_own u begun

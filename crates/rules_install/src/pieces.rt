@@ -107,19 +107,32 @@ impl Pieces {
                 *piece = vec![in alloc; UNSET; HEADER_LENGTH]?;
                 Ok(Some(Piece::Record(0)))
             }
-            Piece::Record(i) => {
-                if self.list.write_rule(i, rule)? {
-                    if i == self.layout.placed {
-                        place_record(&mut self.layout, rule)?;
-                    }
-                    append_record(piece, &rule.key, &rule.code)?;
-                    Ok(Some(Piece::Record(i + 1)))
-                } else {
-                    self.table(alloc, 0, rule, piece)
-                }
-            }
+            Piece::Record(i) => self.record(alloc, i, rule, piece),
             Piece::Table(t) => self.table(alloc, t, rule, piece),
         }
+    }
+
+    // The same for the record of a rule, and for the first table where there is no such rule.
+    fn record(
+        &mut self,
+        alloc: Global,
+        i: usize,
+        rule: &mut StoredRule,
+        piece: &mut Vec<u8>,
+    ) -> Result<Option<Piece>, AllocError>
+        requires { piece.old.items ≡ [] }
+        ensures same { self.new ≡ self.old }
+        ensures made { IfOk result (Continues self.old (Piece.Record i) piece.new.items) }
+        ensures unmade { OnErr result (piece.new.items ≡ []) }
+    {
+        if !self.list.write_rule(i, rule)? {
+            return self.table(alloc, 0, rule, piece);
+        }
+        if i == self.layout.placed {
+            place_record(&mut self.layout, rule)?;
+        }
+        append_record(piece, &rule.key, &rule.code)?;
+        Ok(Some(Piece::Record(i + 1)))
     }
 
     // The same for the first table from this one on that has records.

@@ -6,7 +6,10 @@ use Rattle.dir_calls.specs.Names.{name_fault}
 use Rattle.dir_disk.specs.declared.os_dir.FolderFault.{FolderFault}
 use Rattle.dir_disk.specs.declared.os_dir.FolderFault.TheVariants as folder
 use Rattle.rule_lookup.specs.Answers.{answer_lines}
+use Rattle.rule_lookup.specs.declared.decision.DecideFault.{DecideFault}
+use Rattle.rule_lookup.specs.declared.decision.DecideFault.TheVariants as decide
 use Rattle.rule_lookup.specs.declared.decision.Decision.{Decision}
+use Rattle.rule_lookup.specs.declared.source.FindFault.TheVariants as find
 use Rattle.rule_lookup.specs.Peers.{Client}
 use Rattle.rules_tools.specs.Causes.{check_failure_of}
 use Rattle.rules_tools.specs.Checks.{DecidesBy, FailsBy}
@@ -56,6 +59,14 @@ abbrev pub told_folder : FolderFault → CheckFault
 told_folder folder.NoFolder = NoFile
 told_folder folder.Device = Device
 told_folder folder.OutOfMemory = OutOfMemory
+
+-- what is told where a file gives no decision
+abbrev pub told_decide : DecideFault → CheckFault
+told_decide (decide.Find find.Device) = ReadFault
+told_decide (decide.Find find.Short) = Damaged
+told_decide (decide.Find find.OutOfMemory) = OutOfMemory
+told_decide (decide.Code fault) = Damaged
+told_decide decide.OutOfMemory = OutOfMemory
 
 pub record FailsAt (stands : DirectoriesByPath) (path : List ℕ) (peer : Client) (fault : CheckFault) : Type 0 where
   pub folder : List ℕ

@@ -65,8 +65,17 @@ pub fn install_named<R: Read, D: ClearableDir>(
     ensures untouched { IsRefusal result → folder.new ≡ folder.old }
     ensures of_text { PassesPaths result }
 {
-    let scratch = names.tmp().copy(alloc)?;
-    let mut install = compile(alloc, reader, names)?;
+    let Ok(scratch) = names.tmp().copy(alloc) else {
+        drop(names);
+        return Err(TcprulesFault::OutOfMemory);
+    };
+    let mut install = match compile(alloc, reader, names) {
+        Ok(install) => install,
+        Err(fault) => {
+            drop(scratch);
+            return Err(fault);
+        }
+    };
     // a law: the file that is compiled of a text decides as the text does
     decides();
     let outcome = install_begun(alloc, folder, &mut install, &scratch);

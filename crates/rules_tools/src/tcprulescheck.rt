@@ -6,7 +6,7 @@ ghost use Rattle.dir_calls.specs.Directory.{content};
 ghost use Rattle.byte_text.specs.NotingStream.{noted_error, noted_stream};
 ghost use Rattle.rules_tools.specs.Causes.{check_failure_of};
 ghost use Rattle.rules_tools.specs.Checks.{Blames, DecidesBy, FailsBy};
-ghost use Rattle.rules_tools.specs.Told.{Checks, DecidesAt, DecidesThere, FailsAt, HasNone, NameFails, TellsWithCause, told_folder};
+ghost use Rattle.rules_tools.specs.Told.{Checks, DecidesAt, DecidesThere, FailsAt, HasNone, NameFails, TellsWithCause, told_decide, told_folder};
 ghost use Rattle.rules_tools.specs.declared.tcprulescheck.CheckFault.TheVariants.{OutOfMemory};
 
 use crate::cause::{CauseOf, ErrorCause};
@@ -158,8 +158,12 @@ pub fn tell_decision<V: Variables, F: Folders, W: Write>(
     ensures unwritten { IfErr result (λ fault. fault ≢ CheckFault.WriteFault → writer.new ≡ writer.old) }
 {
     let peer = read_peer(alloc, variables)?;
-    let decision = decide_in(alloc, folders, cdb, &peer)?;
-    write_decision(alloc, writer, &decision)
+    let decided = decide_in(alloc, folders, cdb, &peer);
+    drop(peer);
+    let decision = decided?;
+    let written = write_decision(alloc, writer, &decision);
+    drop(decision);
+    written
 }
 
 /// Writes what a compiled file decides, and flushes it.
@@ -199,7 +203,10 @@ fn decide_in<F: Folders>(
     let name = read_name(alloc, name)?;
     let mut dir = match folders.find(alloc, folder_path(folder)) {
         Ok(dir) => dir,
-        Err(fault) => return Err(fault.into()),
+        Err(fault) => {
+            drop(name);
+            return Err(fault.into());
+        }
     };
     let decided = decide_there(alloc, &mut dir, &name, peer);
     if decided.is_err() {
@@ -226,7 +233,10 @@ fn decide_there<D: Dir>(
 {
     let decision = decide_at(alloc, dir, name, peer)?;
     match decision.found {
-        Found::NoFile => Err(CheckFault::NoFile),
+        Found::NoFile => {
+            drop(decision);
+            Err(CheckFault::NoFile)
+        }
         _ => Ok(decision),
     }
 }
@@ -269,12 +279,23 @@ pub fn decide_at<D: Dir>(
             }
         },
     };
-    match decide(alloc, file.as_ref(), WhenMissing::Deny, peer) {
+    let decided = decide(alloc, file.as_ref(), WhenMissing::Deny, peer);
+    drop(file);
+    match decided {
         Ok(decision) => Ok(decision),
-        Err(DecideFault::Find(FindFault::Device)) => Err(CheckFault::ReadFault),
-        Err(DecideFault::Find(FindFault::Short)) => Err(CheckFault::Damaged),
-        Err(DecideFault::Code(_)) => Err(CheckFault::Damaged),
-        Err(DecideFault::Find(FindFault::OutOfMemory)) => Err(CheckFault::OutOfMemory),
-        Err(DecideFault::OutOfMemory) => Err(CheckFault::OutOfMemory),
+        Err(fault) => Err(told(fault)),
+    }
+}
+
+// What is told where there is no decision.
+fn told(fault: DecideFault) -> CheckFault
+    ensures { result ≡ told_decide fault }
+{
+    match fault {
+        DecideFault::Find(FindFault::Device) => CheckFault::ReadFault,
+        DecideFault::Find(FindFault::Short) | DecideFault::Code(_) => CheckFault::Damaged,
+        DecideFault::Find(FindFault::OutOfMemory) | DecideFault::OutOfMemory => {
+            CheckFault::OutOfMemory
+        }
     }
 }

@@ -2,7 +2,7 @@
 ghost use Rattle.std.specs.Prelude.{◌≡◌, ◌==◌, Some, IfOk, IfErr, option_map};
 ghost use Rattle.rule_lookup.specs.Peers.{given};
 ghost use Rattle.script_words.specs.Readings.{meaning, RefusesAs, RefusesLine, texts};
-ghost use Rattle.script_words.specs.Scripts.{bare_command, choice_in, command_in, command_named, command_of, command_with, limits_in, option_in, other_command, peer_in, peer_of, peer_with, peer_with_both, question_in, reader_in, words_of};
+ghost use Rattle.script_words.specs.Scripts.{bare_command, choice_in, command_in, command_named, command_of, command_with, host_in, info_in, limits_in, option_in, other_command, peer_in, peer_of, peer_with, peer_with_both, question_in, reader_in, words_of};
 ghost use Rattle.script_words.specs.declared.script.LineEnd.TheVariants.{OutOfMemory};
 
 use crate::event_words::{limit_in, phase_in, read_event};
@@ -215,35 +215,20 @@ fn read_peer(alloc: Global, words: &[&str]) -> Result<Peer, LineEnd>
 {
     match words {
         [ip] => make_peer(alloc, ip, None, None),
-        [ip, word] => peer_with(
-            alloc,
-            ip,
-            option_in("info=", word),
-            option_in("host=", word),
-        ),
-        [ip, first, second] => peer_with_both(
-            alloc,
-            ip,
-            option_in("info=", first),
-            option_in("host=", second),
-        ),
+        [ip, word] => peer_with(alloc, ip, word),
+        [ip, first, second] => peer_with_both(alloc, ip, first, second),
         _ => Err(LineEnd::Bad),
     }
 }
 
 /// The peer with one option: that of the user, or else that of the host.
-fn peer_with(
-    alloc: Global,
-    ip: &str,
-    info: Option<&str>,
-    host: Option<&str>,
-) -> Result<Peer, LineEnd>
+fn peer_with(alloc: Global, ip: &str, word: &str) -> Result<Peer, LineEnd>
     ensures read { IfOk result (λ peer.
-        peer_with ip.now (given info.entry) (given host.entry) ≡ Some peer) }
+        peer_with ip.now (info_in word.now) (host_in word.now) ≡ Some peer) }
     ensures refused { IfErr result
-        (RefusesAs (peer_with ip.now (given info.entry) (given host.entry))) }
+        (RefusesAs (peer_with ip.now (info_in word.now) (host_in word.now))) }
 {
-    match (info, host) {
+    match (option_in("info=", word), option_in("host=", word)) {
         (Some(info), _) => make_peer(alloc, ip, Some(info), None),
         (None, Some(host)) => make_peer(alloc, ip, None, Some(host)),
         (None, None) => Err(LineEnd::Bad),
@@ -251,18 +236,13 @@ fn peer_with(
 }
 
 /// The peer with both options.
-fn peer_with_both(
-    alloc: Global,
-    ip: &str,
-    info: Option<&str>,
-    host: Option<&str>,
-) -> Result<Peer, LineEnd>
+fn peer_with_both(alloc: Global, ip: &str, first: &str, second: &str) -> Result<Peer, LineEnd>
     ensures read { IfOk result (λ peer.
-        peer_with_both ip.now (given info.entry) (given host.entry) ≡ Some peer) }
+        peer_with_both ip.now (info_in first.now) (host_in second.now) ≡ Some peer) }
     ensures refused { IfErr result
-        (RefusesAs (peer_with_both ip.now (given info.entry) (given host.entry))) }
+        (RefusesAs (peer_with_both ip.now (info_in first.now) (host_in second.now))) }
 {
-    match (info, host) {
+    match (option_in("info=", first), option_in("host=", second)) {
         (Some(info), Some(host)) => make_peer(alloc, ip, Some(info), Some(host)),
         _ => Err(LineEnd::Bad),
     }

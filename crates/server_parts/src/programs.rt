@@ -24,8 +24,8 @@ const PAUSE: i32 = 100;
 /// The same where the system doesn't tell whether the pipe has room.
 const SHORT_PAUSE: u64 = 5;
 
-/// For so many milliseconds a program waits that the system has no process for: at first, and at most, each time twice
-/// as long as before; and so often, which takes about a minute.
+/// For so many milliseconds a program waits that the system has no process or no descriptor for: at first, and at most,
+/// each time twice as long as before; and so often, which takes about a minute.
 const FIRST_WAIT: u64 = 10;
 
 const LONGEST_WAIT: u64 = 1_000;
@@ -35,8 +35,8 @@ const WAITS: u32 = 66;
 /// After so many of them each is the longest.
 const LONGER: u32 = 8;
 
-/// Starts programs as `OsLauncher` does. Where the system has no process for one, the one in reserve is given back, and
-/// it waits for some time for the end of another.
+/// Starts programs as `OsLauncher` does. Where the system has no process for one, the one in reserve is given back. Then,
+/// and where it has no descriptor, since fewer are allowed by now, it waits for some time for the end of another.
 ///
 /// A connection that is handed over is the standard input and output of its program, one socket twice, and this process
 /// holds it no more. Else both are pipes. What is written to a program's input waits for it as long as it runs, and no
@@ -69,8 +69,8 @@ impl<'a, R: Processes + Files + Wait + Clock> ProgramStarter<'a, R> {
         }
     }
 
-    // Starts a program on this socket, or else between pipes, once the system has a process for it, if that is before
-    // long.
+    // Starts a program on this socket, or else between pipes, once the system has a process and descriptors for it, if
+    // that is before long.
     fn start_in_time(
         &self,
         alloc: Global,
@@ -83,7 +83,11 @@ impl<'a, R: Processes + Files + Wait + Clock> ProgramStarter<'a, R> {
     {
         for waits in 0..WAITS {
             match self.start_once(alloc, program, environment, stream) {
-                Err(refused) if refused.error == Some(libc::EAGAIN) => self.wait_for_process(waits),
+                Err(refused) if refused.error == Some(libc::EAGAIN) => {
+                    self.reserve.give_back(self.rt);
+                    self.wait_for_another(waits);
+                }
+                Err(refused) if refused.error == Some(libc::EMFILE) => self.wait_for_another(waits),
                 outcome => return outcome,
             }
         }
@@ -107,9 +111,8 @@ impl<'a, R: Processes + Files + Wait + Clock> ProgramStarter<'a, R> {
         }
     }
 
-    // Waits for a process, after so many such waits: the one in reserve, or that of another program that ends.
-    fn wait_for_process(&self, waits: u32) {
-        self.reserve.give_back(self.rt);
+    // Waits for what another program gives back that ends, after so many such waits.
+    fn wait_for_another(&self, waits: u32) {
         let longer = FIRST_WAIT << waits.min(LONGER);
         thread::sleep(self.rt, Duration::from_millis(longer.min(LONGEST_WAIT)));
     }

@@ -1,8 +1,8 @@
 -- The line wrappers of names, name by name.
-use Rattle.std.proofs.Common.{◌≡◌, ℕ, ◌+◌, ◌<◌, List, [], ◌∷◌, ◌++◌, drop, get_or, length, Option, Some, None, option_map, refl, sym, ap, ◌∙◌, append_assoc}
+use Rattle.std.proofs.Common.{◌≡◌, ℕ, ◌+◌, ◌<◌, ◌≤◌, List, [], ◌∷◌, ◌++◌, drop, get_or, length, Option, Some, None, option_map, refl, sym, ap, ◌∙◌, append_assoc}
 use Rattle.std.specs.Option.{option_and_then}
 use Rattle.std.specs.Borrow.{Bor}
-use Rattle.std.proofs.lemmas.List.{append-nil, drop_more}
+use Rattle.std.proofs.lemmas.List.{append-nil, drop_all, drop_more}
 use Rattle.server_words.specs.declared.wrapping.LineWrapperName.{LineWrapperName}
 use Rattle.server_words.specs.declared.fault.ServerWordsFault.{ServerWordsFault}
 use Rattle.server_words.specs.declared.fault.ServerWordsFault.TheVariants as fault
@@ -47,6 +47,15 @@ module _ (line_wrappers : List LineWrapperName) (names : List (Bor (List ℕ))) 
   named_at line_wrapper more is pushed =
       ap (λ (read : List LineWrapperName). before read (line_wrappers_in (texts (drop (i + 1) names)))) pushed
       ∙ sym (at_place ∙ before-named line_wrappers ((get_or names i d).now) (texts (drop (i + 1) names)) line_wrapper is)
+
+  pub unnamed_at : line_wrapper_named ((get_or names i d).now) ≡ None → before line_wrappers (line_wrappers_in (texts (drop i names))) ≡ None
+  unnamed_at is =
+      at_place ∙ before-unnamed line_wrappers ((get_or names i d).now) (texts (drop (i + 1) names)) is
+
+-- no name is left
+pub none_left : (line_wrappers : List LineWrapperName) (names : List (Bor (List ℕ))) (i : ℕ) → length names ≤ i → before line_wrappers (line_wrappers_in (texts (drop i names))) ≡ Some line_wrappers
+none_left line_wrappers names i end =
+    ap (λ (left : List (Bor (List ℕ))). before line_wrappers (line_wrappers_in (texts left))) (drop_all i names end) ∙ before-end line_wrappers
 
 -- names that are refused as line wrappers are so as wrappers
 pub RefusesAs-map : {A B : Type 0} (f : A → B) (part : Option A) (whole : Option B) (e : ServerWordsFault) → whole ≡ option_map f part → RefusesAs part e → RefusesAs whole e

@@ -2,6 +2,7 @@
 ghost use Rattle.std.specs.Prelude.{◌≡◌, Some, IfOk, IfErr, option_map};
 ghost use Rattle.server_words.specs.Wrappings.{RefusesAs, acts_on_input, acts_on_output, names_in, line_wrapper_named, line_wrappers_in, texts, wrapping_by_names, wrapping_in, wrapping_of};
 ghost use Rattle.server_words.specs.OptionWords.{text_of};
+ghost use Rattle.server_words.specs.declared.fault.ServerWordsFault.TheVariants.{OutOfMemory};
 
 use crate::fault::ServerWordsFault;
 use std::alloc::{AllocError, Global};
@@ -77,7 +78,7 @@ impl Wrapping {
         ensures refused { IfErr result (RefusesAs (wrapping_in (text_of names.entry))) }
     {
         let Some(names) = names else {
-            return Ok(Wrapping::new(alloc, false, &[])?);
+            return Wrapping::new(alloc, false, &[]);
         };
         let names = split_names(alloc, names)?;
         Wrapping::named(alloc, names.as_slice())
@@ -90,7 +91,7 @@ impl Wrapping {
     {
         let (records, names) = split_recorder(names);
         let line_wrappers = line_wrappers_of(alloc, names)?;
-        Ok(Wrapping::new(alloc, records, line_wrappers.as_slice())?)
+        Wrapping::new(alloc, records, line_wrappers.as_slice())
     }
 
     /// These line wrappers, in the order of their names: those of the input in this order, those of the output in the opposite one.
@@ -98,8 +99,9 @@ impl Wrapping {
         alloc: Global,
         records: bool,
         line_wrappers: &[LineWrapperName],
-    ) -> Result<Wrapping, AllocError>
-        ensures { IfOk result (λ wrapping. wrapping ≡ wrapping_of records line_wrappers.now) }
+    ) -> Result<Wrapping, ServerWordsFault>
+        ensures made { IfOk result (λ wrapping. wrapping ≡ wrapping_of records line_wrappers.now) }
+        ensures refused { IfErr result (λ fault. fault ≡ OutOfMemory) }
     {
         let input = line_wrappers
             .iter()

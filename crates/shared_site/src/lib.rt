@@ -16,7 +16,7 @@ pub mod site;
 pub mod turn;
 pub mod turns;
 
-pub use caller::{Caller, Callers};
+pub use caller::{BackCallers, Caller, Callers, NewCallers};
 pub use ground::{CallerOf, Ground, YardOf};
 pub use receipt::{Made, OutOfTurn, Receipt, Refusal};
 pub use site::{AllRetired, Site};

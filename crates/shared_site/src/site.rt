@@ -1,17 +1,16 @@
 //! The site: a yard under one lock, for many threads.
-ghost use Rattle.std.specs.Prelude.{◌≡◌, ◌+◌, ◌<◌, ◌≤◌, ◌↔◌, true, List, IsOk, IfOk, IfErr, vec_len};
+ghost use Rattle.std.specs.Prelude.{◌≡◌, ◌+◌, ◌≤◌, ◌↔◌, true, List, IsOk, IfOk, IfErr};
 ghost use Rattle.server_events.specs.declared.event.Event.{Event};
 ghost use Rattle.server_yard.specs.Yards.{HasRun, IsRunOf, yard_books, yard_server};
-ghost use Rattle.shared_site.specs.Callers.{AreNew, CountsForIts, total_share};
+ghost use Rattle.shared_site.specs.Callers.{CountsForIts, back_lacking, back_share, new_count};
 ghost use Rattle.shared_site.specs.Turns.{told_then};
 
-use crate::caller::{Caller, Callers};
+use crate::caller::{BackCallers, NewCallers};
 use crate::ground::{CallerOf, Ground, YardOf};
 use crate::turn::Turn;
 use server_yard::Assumptions;
-use std::alloc::{AllocError, Global};
 use std::marker::PhantomData;
-use std::sync::ledger::{Blank, Book, Share};
+use std::sync::ledger::{Blank, Book};
 use std::sync::{Mutex, Wait};
 
 /// Evidence that all places of this ledger are retired, so that none will ever be free. Only a yard that is so makes
@@ -65,40 +64,22 @@ impl<G: Ground> Guarded<G> {
 #[derive(Drop)]
 pub struct Site<G: Ground> {
     guarded: Mutex<Guarded<G>>,
-    callers: u64,
-    ghost all: { callers ≡ G.Callers.all },
-    ghost some: { 0 < callers },
 }
 
 impl<G: Ground> Site<G> {
-    /// A site with this many callers, numbered from 1, each with a share of 0. `blank` has as many parts.
-    ///
-    /// # Errors
-    /// There was no memory. The yard is handed back.
-    pub fn new(
-        alloc: Global,
-        blank: Blank,
-        yard: YardOf<G>,
-        callers: u64,
-    ) -> Result<(Site<G>, Vec<CallerOf<G>>), (YardOf<G>, AllocError)>
+    /// A site with this many callers, numbered from 1. `blank` has as many parts.
+    pub fn new(blank: Blank, yard: YardOf<G>, callers: u64) -> (Site<G>, NewCallers<G::Callers>)
         requires name { blank.name ≡ G.Callers.name }
         requires parts { (blank.parts ≡ G.Callers.parts) × (blank.parts ≡ callers) × (G.Callers.all ≡ callers) }
-        requires some { 0 < callers }
         requires before { G.Callers.before ≡ (yard_books yard).count }
-        ensures callers { IfOk result (λ r. AreNew callers r.1.items) }
-        ensures back { IfErr result (λ r. r.0 ≡ yard) }
+        ensures callers { new_count result.1 ≡ callers }
     {
         yard.unbegun();
-        let (events, mut rest) = blank.open::<G::Callers>();
-        let made = match make_callers(alloc, &mut rest, callers) {
-            Ok(made) => made,
-            Err(error) => return Err((yard, error)),
-        };
+        let (events, share) = blank.open::<G::Callers>();
         let site = Site {
             guarded: Mutex::new(Guarded { yard, events }),
-            callers,
         };
-        Ok((site, made))
+        (site, NewCallers::of(share, callers))
     }
 
     /// Makes a turn for a caller. It waits for the lock, runs the turn on the yard with the caller's number, and lets
@@ -131,65 +112,26 @@ impl<G: Ground> Site<G> {
     ///
     /// # Errors
     /// Some caller is lacking. The site and the callers are handed back.
-    pub fn close(self, callers: Vec<CallerOf<G>>) -> Result<YardOf<G>, (Site<G>, Vec<CallerOf<G>>)>
+    pub fn close(
+        self,
+        callers: BackCallers<G::Callers>,
+    ) -> Result<YardOf<G>, (Site<G>, BackCallers<G::Callers>)>
         requires parts { G.Callers.all ≡ G.Callers.parts }
-        ensures all { IsOk result ↔ (vec_len callers ≡ G.Callers.all) }
-        ensures history { IfOk result (λ yard. (yard_books yard).count ≡ G.Callers.before + total_share callers.items) }
+        ensures all { IsOk result ↔ (back_lacking callers ≡ 0) }
+        ensures history { IfOk result (λ yard. (yard_books yard).count ≡ G.Callers.before + back_share callers) }
         ensures ran { IfOk result (λ yard. G.is_servers ≡ true → G.Callers.before ≡ 0 → HasRun yard) }
         ensures back { IfErr result (λ r. (r.0 ≡ self) × (r.1 ≡ callers)) }
     {
-        if callers.len() as u64 != self.callers {
+        if callers.lacking != 0 {
             return Err((self, callers));
         }
-        let Site {
-            guarded,
-            callers: _,
-        } = self;
+        let Site { guarded } = self;
         let Guarded { yard, mut events } = guarded.into_inner();
-        let mut all = merged(callers);
+        let BackCallers {
+            lacking: _,
+            share: mut all,
+        } = callers;
         events.audit(&mut all);
         Ok(yard)
     }
-}
-
-// This many callers, each with one part and a share of 0.
-fn make_callers<N: Callers>(
-    alloc: Global,
-    rest: &mut Share<N>,
-    count: u64,
-) -> Result<Vec<Caller<N>>, AllocError>
-    requires { (rest.old.parts ≡ count) × (rest.old.amount ≡ 0) }
-    ensures { IfOk result (λ callers. AreNew count callers.items) }
-{
-    let mut callers = Vec::new(alloc);
-    for k in 0..count {
-        let share = rest.split_off(1, 0);
-        callers.push(Caller {
-            number: k + 1,
-            share,
-        })?;
-    }
-    Ok(callers)
-}
-
-// Joins the parts and amounts of all callers in one share.
-fn merged<N: Callers>(callers: Vec<Caller<N>>) -> Share<N>
-    requires { 0 < vec_len callers }
-    ensures parts { result.parts ≡ vec_len callers }
-    ensures amount { result.amount ≡ total_share callers.items }
-{
-    let mut callers = callers;
-    let Some(
-        Caller {
-            number: _,
-            share: mut all,
-        },
-    ) = callers.pop()
-    else {
-        unreachable!()
-    };
-    while let Some(Caller { number: _, share }) = callers.pop() {
-        all.merge(share);
-    }
-    all
 }

@@ -25,7 +25,7 @@ pub use host::{AgentGround, Host, Rules, RulesHandle};
 pub use server::Service;
 pub use server_log::Log;
 pub use server_words::{ConnectionLimits, Level, Mode};
-pub use serving::{Closed, serve};
+pub use serving::{CALLERS, Closed, serve};
 pub use tcp_connections::{
     AcceptError, Accepted, Acceptor, Errors, Follow, HostNames, Patience, Reserve, ServeEnd, Shut,
     Starter, Supply,

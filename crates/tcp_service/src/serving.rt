@@ -1,7 +1,7 @@
 //! The server: it lets connections in, each served by threads that are kept, until it comes to an end.
-ghost use Rattle.std.specs.Prelude.{◌≡◌, ◌↔◌, ◌+◌, ◌≤◌, [], true, false, IsTrue, is_some, length, vec_capacity, vec_len};
+ghost use Rattle.std.specs.Prelude.{◌≡◌, ◌↔◌, ◌+◌, true, false, IsTrue, is_some, length};
 ghost use Rattle.server_yard.specs.Yards.{HasRun, yard_books, yard_server};
-ghost use Rattle.shared_site.specs.Callers.{caller_share, total_share};
+ghost use Rattle.shared_site.specs.Callers.{back_lacking, back_share, caller_share};
 ghost use Rattle.tcp_connections.specs.Admissions.{FailedToAccept, IsServed, suffices};
 ghost use Rattle.tcp_connections.specs.declared.admission.ServeEnd.TheVariants.{AcceptFaults, NoPlaces, Spent};
 
@@ -13,13 +13,17 @@ use crate::server::{AgentContext, Server, Service};
 use child_jobs::Plan;
 use server_log::Log;
 use server_words::Mode;
-use shared_site::{Caller, CallerOf, Callers, Site, YardOf};
+use shared_site::{BackCallers, CallerOf, Site, YardOf};
 use std::alloc::Global;
 use std::snapshot::Snapshot;
 use std::sync::Mutex;
+use std::sync::ledger::Blank;
 use std::thread::Threads;
 use std::time::Clock;
 use tcp_connections::{Acceptor, Errors, ServeEnd, Serving, Workers};
+
+/// So many callers of a site make the events of a server: one lets connections in, and the other makes the rest.
+pub const CALLERS: u64 = 2;
 
 /// A server that has come to its end: nobody is let in any more and its threads have ended, both callers of its site
 /// are back and the site is closed. Each connection that is alive still is a retired one, unless one was lost. For want
@@ -51,19 +55,20 @@ pub struct Closed<H: Host> {
     pub ghost ran: { H.is_servers ≡ true → H.Callers.before ≡ 0 → HasRun yard },
 }
 
-/// Serves connections until it comes to an end, waits until all that were let in are over, and closes the site.
+/// Serves connections at a site over this yard until it comes to an end, waits until all that were let in are over, and
+/// closes the site.
 ///
-/// Of the two callers of the site the first lets connections in, and makes no other events; the second makes all
-/// others. `plan` is what each connection is served by. `starter` starts programs that have what the service's mode
-/// says as their standard input and output. Each connection opens `rules` for itself. Once no more connections are let
-/// in, the acceptor is dropped. By faults of accepting the server ends only if the last hundred answers of the acceptor
-/// were errors, or if there was too little for one connection.
+/// Of the two callers of the site, with a part each of `parts`, one lets connections in and makes no other events; the
+/// other makes all others. `plan` is what each connection is served by. `starter` starts programs that have what the
+/// service's mode says as their standard input and output. Each connection opens `rules` for itself. Once no more
+/// connections are let in, the acceptor is dropped. By faults of accepting the server ends only if the last hundred
+/// answers of the acceptor were errors, or if there was too little for one connection.
 pub fn serve<'a, H, A>(
     rt: &'a H::Runtime,
     alloc: Global,
     acceptor: A,
-    site: Site<H>,
-    callers: Vec<CallerOf<H>>,
+    yard: YardOf<H>,
+    parts: Blank,
     rules: &'a H::Rules,
     starter: &'a H::Starter,
     plan: &'a Plan,
@@ -86,16 +91,17 @@ where
     H::Input: Send,
     H::Output: Send,
     A: Acceptor<Holder = H::Holder> + Send + Sync + Drop,
-    requires callers { (H.Callers.all ≡ 2) × (H.Callers.parts ≡ 2)
-        × (vec_len callers ≡ 2) × (total_share callers.items ≡ 0) }
+    requires parts { (parts.name ≡ H.Callers.name) × (parts.parts ≡ H.Callers.parts) × (parts.parts ≡ CALLERS)
+        × (H.Callers.all ≡ CALLERS) }
+    requires before { H.Callers.before ≡ (yard_books yard).count }
     ensures count { IsServed result.end service.now.limits.count 0 (caller_share result.admitter.value) }
     ensures faults { result.end ≡ AcceptFaults → FailedToAccept (suffices service.now.supply) result.errors.count }
 {
-    let live = site.live(rt);
+    let live = yard.live();
     let _ = log.lock(rt).status(live);
-    let mut callers = callers;
-    let (teller, admitter) = both(&mut callers);
-    let teller = Mutex::new(teller);
+    let (site, mut callers) = Site::<H>::new(parts, yard, CALLERS);
+    let (teller, admitter) = (Mutex::new(callers.take()), callers.take());
+    let back = callers.into_back();
     let server = Server::<H> {
         context: AgentContext {
             rt,
@@ -132,47 +138,32 @@ where
         seen,
     } = entrance;
     let teller = teller.into_inner();
-    close(end, errors, seen, site, callers, admitter, teller)
-}
-
-// The two callers of a site, the second first.
-#[tactic(auto, using(crate::proofs::Shares::idle_first, crate::proofs::Shares::idle_second))]
-fn both<N: Callers>(callers: &mut Vec<Caller<N>>) -> (Caller<N>, Caller<N>)
-    requires two { vec_len callers.old ≡ 2 }
-    requires idle { total_share callers.old.items ≡ 0 }
-    ensures room { (callers.new.items ≡ []) × (2 ≤ vec_capacity callers.new) }
-    ensures idle { (caller_share result.0 ≡ 0) × (caller_share result.1 ≡ 0) }
-{
-    let (Some(second), Some(first)) = (callers.pop(), callers.pop()) else {
-        unreachable!()
-    };
-    (second, first)
+    close(end, errors, seen, site, back, admitter, teller)
 }
 
 // Closes a site with both of its callers, and looks whether each connection that is alive still is retired.
-#[tactic(auto, using(crate::proofs::Shares::of_both))]
 fn close<H: Host>(
     end: ServeEnd,
     errors: Errors,
     seen: Seen<H::Places>,
     site: Site<H>,
-    callers: Vec<CallerOf<H>>,
+    back: BackCallers<H::Callers>,
     admitter: CallerOf<H>,
     teller: CallerOf<H>,
 ) -> Closed<H>
     requires places { end ≡ NoPlaces → IsTrue (is_some seen.retired) }
     requires spent { end ≡ Spent → IsTrue (is_some seen.spent) }
-    requires all { (H.Callers.all ≡ 2) × (H.Callers.parts ≡ 2) }
-    requires room { (callers.items ≡ []) × (2 ≤ vec_capacity callers) }
+    requires all { H.Callers.all ≡ H.Callers.parts }
+    requires both { (back_lacking back ≡ 2) × (back_share back ≡ 0) }
     ensures end { result.end ≡ end }
     ensures admitter { result.admitter.value ≡ admitter }
     ensures errors { result.errors ≡ errors }
 {
-    let mut callers = callers;
+    let mut back = back;
     let (admitter_then, teller_then) = (Snapshot::of(&admitter), Snapshot::of(&teller));
-    callers.push_reserved(admitter);
-    callers.push_reserved(teller);
-    let Ok(yard) = site.close(callers) else {
+    back.add(admitter);
+    back.add(teller);
+    let Ok(yard) = site.close(back) else {
         unreachable!()
     };
     let has_lost = yard.journal().report().retired != yard.live();

@@ -1,5 +1,6 @@
 //! Eight callers in threads of their own, who share four places.
 ghost use Rattle.std.specs.Prelude.{◌≡◌, false};
+ghost use Rattle.shared_site.specs.Callers.{new_count};
 
 use crate::calls::{
     OrWrong, Wrong, decided, drop_one, file_name, install, installation, let_in, peer_for,
@@ -11,7 +12,7 @@ use memory_dirs::MemDir;
 use rule_lookup::{Verdict, WhenMissing};
 use server_events::{Event, Report, replay};
 use server_yard::{Assumptions, Yard};
-use shared_site::{Caller, Callers, Receipt, Site};
+use shared_site::{BackCallers, Caller, Callers, NewCallers, Receipt, Site};
 use std::alloc::{AllocError, Global};
 use std::marker::Brand;
 use std::sync::Wait;
@@ -120,9 +121,30 @@ fn run_all<
     thread::map_vec(rt, callers, &|caller| work(rt, alloc, site, caller))
 }
 
-// Gathers the callers, and all their receipts.
-fn gather<N: Callers>(alloc: Global, all: Vec<Left<N>>) -> OrWrong<(Vec<Caller<N>>, Vec<Receipt>)> {
+// Takes eight callers, and answers with those that are left.
+fn take_eight<N: Callers>(
+    alloc: Global,
+    new: NewCallers<N>,
+) -> Result<(Vec<Caller<N>>, NewCallers<N>), AllocError>
+    requires eight { new_count new ≡ CALLERS }
+{
+    let mut new = new;
     let mut callers = Vec::new(alloc);
+    for _ in 0..CALLERS {
+        callers.push(new.take())?;
+    }
+    Ok((callers, new))
+}
+
+// Gathers the callers, and all their receipts.
+fn gather<N: Callers>(
+    alloc: Global,
+    new: NewCallers<N>,
+    all: Vec<Left<N>>,
+) -> OrWrong<(BackCallers<N>, Vec<Receipt>)>
+    requires parts { N.all ≡ N.parts }
+{
+    let mut back = new.into_back();
     let mut receipts = Vec::new(alloc);
     for Left {
         caller,
@@ -132,10 +154,10 @@ fn gather<N: Callers>(alloc: Global, all: Vec<Left<N>>) -> OrWrong<(Vec<Caller<N
         if !is_served {
             return Err(Wrong);
         }
-        callers.push(caller)?;
+        back.add(caller);
         receipts.append(&mut more)?;
     }
-    Ok((callers, receipts))
+    Ok((back, receipts))
 }
 
 // The events of receipts, ordered by their places.
@@ -175,7 +197,7 @@ fn eight<
 {
     let alloc = rt.alloc();
     let rules = Some((file_name(alloc, b"rules")?, WhenMissing::Deny));
-    let (site, callers) = new_site::<L, N>(
+    let (site, new) = new_site::<L, N>(
         alloc,
         places,
         parts,
@@ -184,8 +206,9 @@ fn eight<
         LIMIT,
         CALLERS,
     )?;
+    let (callers, new) = take_eight(alloc, new)?;
     let all = run_all(rt, alloc, &site, callers)?;
-    let (callers, receipts) = gather(alloc, all)?;
+    let (callers, receipts) = gather(alloc, new, all)?;
     let yard = close(site, callers, &receipts)?;
     report_of(alloc, &yard, receipts)
 }

@@ -1,6 +1,6 @@
 //! A server without a rules file, over a directory in memory.
-ghost use Rattle.std.specs.Prelude.{◌≡◌, ◌<◌, true, false, IfOk, None, ⊤, vec_len};
-ghost use Rattle.shared_site.specs.Callers.{total_share};
+ghost use Rattle.std.specs.Prelude.{◌≡◌, ◌<◌, true, false, IfSome, None, ⊤};
+ghost use Rattle.server_yard.specs.Yards.{yard_books};
 
 use crate::answer::Answer;
 use crate::history::add_history;
@@ -13,9 +13,8 @@ use rule_lookup::Peer;
 use server_events::Journal;
 use server_words::Level;
 use server_yard::{Assumptions, Finding, Yard};
-use shared_site::{CallerOf, Callers, Ground, Site};
+use shared_site::{Callers, Ground};
 use std::alloc::{AllocError, Global};
-use std::io;
 use std::marker::{Brand, PhantomData};
 use std::sync::atomic::Ordering;
 use std::sync::ledger::Blank;
@@ -24,7 +23,7 @@ use std::thread::Threads;
 use std::time::{Clock, Duration};
 use stream_tools::SharedWriter;
 use tcp_service::{
-    AgentGround, ConnectionLimits, Host, HostNames, Log, Mode, Patience, Reserve, Rules,
+    AgentGround, CALLERS, ConnectionLimits, Host, HostNames, Log, Mode, Patience, Reserve, Rules,
     RulesHandle, ServeEnd, Service, Supply, serve,
 };
 
@@ -158,7 +157,7 @@ pub fn add_served<R: Threads + Wait + Clock + Sync>(
     let mut lines = Vec::new(alloc);
     let log = Mutex::new(Log::new(alloc, &mut lines, Level::All, Voice::Plain, asked.limit));
     let (plan, service) = (plan(alloc), service(asked));
-    let (places, parts) = (Blank::new(asked.limit), Blank::new(2));
+    let (places, parts) = (Blank::new(asked.limit), Blank::new(CALLERS));
     serve_by::<R, Brand, Brand>(
         rt, alloc, asked, &launcher, &plan, &service, &log, places, parts, out,
     );
@@ -184,11 +183,10 @@ where
     requires limit { (0 < asked.limit) × (asked.limit < 10001) }
     requires places { (places.name ≡ L.name) × (places.parts ≡ L.parts) × (places.parts ≡ asked.limit) }
     requires met { L.met ≡ false }
-    requires parts { (parts.name ≡ N.name) × (parts.parts ≡ N.parts) × (parts.parts ≡ 2) }
-    requires callers { (N.all ≡ 2) × (N.before ≡ 0) }
+    requires parts { (parts.name ≡ N.name) × (parts.parts ≡ N.parts) × (parts.parts ≡ CALLERS) }
+    requires callers { (N.all ≡ CALLERS) × (N.before ≡ 0) }
 {
-    let Ok((site, callers)) = site_of::<InMemory<'a, 'w, R, L, N>>(alloc, asked, places, parts)
-    else {
+    let Some(yard) = yard_of::<L>(alloc, asked, places) else {
         return out.fail();
     };
     let acceptor = Clients {
@@ -200,7 +198,7 @@ where
         addresses: asked.addresses,
     };
     let closed = serve::<InMemory<'a, 'w, R, L, N>, Clients<'a, R>>(
-        rt, alloc, acceptor, site, callers, &NoRules, launcher, plan, service, log,
+        rt, alloc, acceptor, yard, parts, &NoRules, launcher, plan, service, log,
     );
     let rest = if closed.has_lost { ", unfinished" } else { "" };
     add_end(&closed.end, &closed.yard, rest, launcher.tally, out);
@@ -229,21 +227,14 @@ fn add_end<L: Assumptions, D: Dir + Drop>(
     out.end_line();
 }
 
-/// A site over an empty directory, and its callers.
-fn site_of<G: Ground<File = MemFile, Folder = MemDir>>(
-    alloc: Global,
-    asked: Asked,
-    places: Blank,
-    parts: Blank,
-) -> io::Result<(Site<G>, Vec<CallerOf<G>>)>
+/// A yard over an empty directory, if there is memory for it.
+fn yard_of<L: Assumptions>(alloc: Global, asked: Asked, places: Blank) -> Option<Yard<L, MemDir>>
     requires limit { (0 < asked.limit) × (asked.limit < 10001) }
-    requires places { (places.name ≡ G.Places.name) × (places.parts ≡ G.Places.parts) × (places.parts ≡ asked.limit) }
-    requires met { G.Places.met ≡ false }
-    requires parts { (parts.name ≡ G.Callers.name) × (parts.parts ≡ G.Callers.parts) × (parts.parts ≡ 2) }
-    requires callers { (G.Callers.all ≡ 2) × (G.Callers.before ≡ 0) }
-    ensures new { IfOk result (λ made. (vec_len made.1 ≡ 2) × (total_share made.1.items ≡ 0)) }
+    requires places { (places.name ≡ L.name) × (places.parts ≡ L.parts) × (places.parts ≡ asked.limit) }
+    requires met { L.met ≡ false }
+    ensures new { IfSome result (λ yard. (yard_books yard).count ≡ 0) }
 {
-    let yard = Yard::<G::Places, MemDir>::with_address_limit(
+    let made = Yard::<L, MemDir>::with_address_limit(
         alloc,
         places,
         MemDir::new(alloc),
@@ -252,13 +243,7 @@ fn site_of<G: Ground<File = MemFile, Folder = MemDir>>(
         asked.per_address,
         Journal::storing(alloc),
     );
-    let Ok(yard) = yard else {
-        return Err(io::Error::from(io::ErrorKind::OutOfMemory));
-    };
-    match Site::<G>::new(alloc, parts, yard, 2) {
-        Ok(made) => Ok(made),
-        Err(_) => Err(io::Error::from(io::ErrorKind::OutOfMemory)),
-    }
+    made.ok()
 }
 
 fn plan(alloc: Global) -> Plan {

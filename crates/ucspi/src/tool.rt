@@ -31,7 +31,7 @@ use server_parts::{
 };
 use server_words::{Level, ServerWords, read_server_words};
 use server_yard::{Assumptions, Yard};
-use shared_site::{Callers, Site, YardOf};
+use shared_site::Callers;
 use std::alloc::Global;
 use std::fs::{File, Files};
 use std::io::Write;
@@ -45,7 +45,7 @@ use std::thread::Threads;
 use std::time::{Clock, Duration};
 use stream_tools::SearchPath;
 use stream_tools::started::{SystemGiven, texts_of};
-use tcp_service::{Acceptor, Host, Log, Patience, Reserve, Service, serve};
+use tcp_service::{CALLERS, Log, Patience, Reserve, Service, serve};
 
 /// For so many seconds in succession a client whose connection is pumped may take nothing of what its program left for
 /// it.
@@ -53,9 +53,6 @@ const IDLE: u64 = 60;
 
 /// And for so many in all.
 const ALL: u64 = 600;
-
-/// So many callers of the site make the events of all connections: one lets them in, and the other makes the rest.
-const CALLERS: u64 = 2;
 
 /// Runs `tcpserver` with these words, over the system's sockets, files and programs; `errors` takes the lines of its
 /// log. Without `-s` and `-S` connections are handed over or pumped as `voice` says. It returns once as many
@@ -249,8 +246,8 @@ fn run_site<'a, L: Assumptions + Send + Sync, N: Callers + Send + Sync, P: Syste
     requires places { (places.name ≡ L.name) × (places.parts ≡ L.parts)
         × (places.parts ≡ words.now.limits.connections) }
     requires met { L.met ≡ false }
-    requires parts { (parts.name ≡ N.name) × (parts.parts ≡ N.parts) × (parts.parts ≡ 2) }
-    requires callers { (N.all ≡ 2) × (N.before ≡ 0) }
+    requires parts { (parts.name ≡ N.name) × (parts.parts ≡ N.parts) × (parts.parts ≡ CALLERS) }
+    requires callers { (N.all ≡ CALLERS) × (N.before ≡ 0) }
     requires asked { AreAsked words.now server.now.plan server.now.service }
     requires rules { AreRulesOf words.now rules }
     requires accepts { AcceptsAsAsked P.listens words.now acceptor }
@@ -271,7 +268,7 @@ fn run_site<'a, L: Assumptions + Send + Sync, N: Callers + Send + Sync, P: Syste
         at,
         yard: PhantomData,
     };
-    serve_at_site::<OnSystem<'a, P, L, N>, SocketAcceptor<'a, P::Runtime, P::Listener>>(
+    let served = serve::<OnSystem<'a, P, L, N>, SocketAcceptor<'a, P::Runtime, P::Listener>>(
         rt,
         alloc,
         acceptor,
@@ -282,7 +279,8 @@ fn run_site<'a, L: Assumptions + Send + Sync, N: Callers + Send + Sync, P: Syste
         &server.plan,
         &server.service,
         &server.log,
-    )
+    );
+    end_of(served)
 }
 
 // A yard of this rules file, with the limits of the words.
@@ -316,48 +314,4 @@ fn yard_of<L: Assumptions>(
         Ok(yard) => Ok(yard),
         Err(_) => Err(ServerFault::OutOfMemory),
     }
-}
-
-// Serves connections at a site of its own, over this yard.
-fn serve_at_site<'a, H, A>(
-    rt: &'a H::Runtime,
-    alloc: Global,
-    acceptor: A,
-    yard: YardOf<H>,
-    parts: Blank,
-    rules: &'a H::Rules,
-    starter: &'a H::Starter,
-    plan: &'a Plan,
-    service: &'a Service<'a>,
-    log: &'a Mutex<Log<H::Lines>>,
-) -> Result<Finished, ServerFailure>
-where
-    H: Host + Send + Sync,
-    H::Runtime: Threads + Clock + Sync,
-    H::Places: Send + Sync,
-    H::Callers: Send + Sync,
-    H::File: Send,
-    H::Folder: Send,
-    H::Handle: Send,
-    H::Rules: Sync,
-    H::Lines: Send,
-    H::Holder: Send,
-    H::Starter: Sync,
-    H::Job: Send,
-    H::Input: Send,
-    H::Output: Send,
-    A: Acceptor<Holder = H::Holder> + Send + Sync + Drop,
-    requires servers { H.is_servers ≡ true }
-    requires parts { (parts.name ≡ H.Callers.name) × (parts.parts ≡ H.Callers.parts) × (parts.parts ≡ 2) }
-    requires callers { (H.Callers.all ≡ 2) × (H.Callers.before ≡ 0) }
-    requires new { (yard_books yard).count ≡ 0 }
-{
-    let Ok((site, callers)) = Site::<H>::new(alloc, parts, yard, CALLERS) else {
-        drop(acceptor);
-        return Err(ServerFailure::from(ServerFault::OutOfMemory));
-    };
-    let served = serve::<H, A>(
-        rt, alloc, acceptor, site, callers, rules, starter, plan, service, log,
-    );
-    end_of(served)
 }

@@ -1,7 +1,7 @@
 //! The end of a site: its receipts are its whole history.
-ghost use Rattle.std.specs.Prelude.{◌≡◌, ◌≢◌, ◌+◌, ◌↔◌, Err, IsOk, IfOk, IfErr, OnOk, length, vec_len};
+ghost use Rattle.std.specs.Prelude.{◌≡◌, ◌≢◌, ◌+◌, ◌↔◌, Err, IsOk, IfOk, IfErr, OnOk, length};
 ghost use Rattle.server_yard.specs.Yards.{yard_books};
-ghost use Rattle.shared_site.specs.Callers.{total_share};
+ghost use Rattle.shared_site.specs.Callers.{back_lacking, back_share};
 ghost use Rattle.whole_yard.specs.Closings.{IsNotWhole, IsWhole};
 ghost use Rattle.whole_yard.specs.declared.closing.NotWhole.TheVariants.{Missing};
 
@@ -9,7 +9,7 @@ use crate::audit::{Mismatch, audit};
 use crate::laws::whole;
 use dir_calls::Dir;
 use server_yard::{Assumptions, Yard};
-use shared_site::{CallerOf, Ground, Receipt, Site, YardOf};
+use shared_site::{BackCallers, Ground, Receipt, Site, YardOf};
 
 /// Why receipts are not the whole history.
 #[derive(Clone, Copy)]
@@ -58,14 +58,14 @@ pub fn audit_whole<L: Assumptions, D: Dir + Drop>(
 /// Some caller is lacking. The site and the callers are handed back.
 pub fn close_and_audit<G: Ground>(
     site: Site<G>,
-    callers: Vec<CallerOf<G>>,
+    callers: BackCallers<G::Callers>,
     receipts: &[Receipt],
-) -> Result<(YardOf<G>, Result<(), NotWhole>), (Site<G>, Vec<CallerOf<G>>)>
+) -> Result<(YardOf<G>, Result<(), NotWhole>), (Site<G>, BackCallers<G::Callers>)>
     requires parts { G.Callers.all ≡ G.Callers.parts }
-    ensures all { IsOk result ↔ (vec_len callers ≡ G.Callers.all) }
+    ensures all { IsOk result ↔ (back_lacking callers ≡ 0) }
     ensures whole { IfOk result (λ r. OnOk r.1 (IsWhole (yard_books r.0).notes receipts.now)) }
     ensures refused { IfOk result (λ r. IfErr r.1 (IsNotWhole (yard_books r.0).notes receipts.now)) }
-    ensures complete { G.Callers.before + total_share callers.items ≡ length receipts.now
+    ensures complete { G.Callers.before + back_share callers ≡ length receipts.now
         → IfOk result (λ r. r.1 ≢ Err Missing) }
     ensures back { IfErr result (λ r. (r.0 ≡ site) × (r.1 ≡ callers)) }
 {

@@ -1,6 +1,37 @@
-use Rattle.std.proofs.Common.{◌≡◌, ◌-◌, ◌<◌, ◌≤◌, length, arith, ap, ◌∙◌, length-set}
-use Rattle.byte_streams.proofs.ThroughLemmas.{flow_end, flow_step, through_wholes, wholes_more}
+use Rattle.std.proofs.Common.{◌≡◌, ◌-◌, ◌<◌, ◌≤◌, length, arith, ap, ◌∙◌, length-set, refl}
+use Rattle.byte_streams.proofs.ThroughLemmas.{flow_end, flow_none, flow_step, through_wholes, wholes_more}
 use Rattle.byte_streams.proofs.chain.feed_all.Goals as goal
+
+pub returns-then-count-eq0-clause-fed : goal.returns-then-count-eq0-clause-fed
+returns-then-count-eq0-clause-fed g c = flow_none c.extend_from_slice.result c.args.wrappers.now g.S.LineWrapper.rest c.args.piece.now _ _ c.if-count-eq0.true c.extend_from_slice.ensures.items
+
+pub returns-then-last-eq0-clause-fed : goal.returns-then-last-eq0-clause-fed
+returns-then-last-eq0-clause-fed g c =
+    let one : 1 ≡ length c.args.wrappers.now = omega arith in
+    flow_end c.feed.result c.args.wrappers.now c.args.wrappers.now 0 0 c.index-wrappers-0.result c.feed.new.self
+    g.S.LineWrapper.rest
+    c.args.piece.now c.args.piece.now _ _ _ refl one (λ later. refl) refl c.feed.ensures.fed
+
+pub returns-then-last-eq0-clause-wholes : goal.returns-then-last-eq0-clause-wholes
+returns-then-last-eq0-clause-wholes g c =
+    through_wholes c.args.wrappers.now c.args.wrappers.now 0 c.index-wrappers-0.result c.feed.new.self
+    g.S.LineWrapper.whole c.feed.ensures.same refl
+
+pub returns-in_err-feed-clause-wholes : goal.returns-in_err-feed-clause-wholes
+returns-in_err-feed-clause-wholes g c =
+    through_wholes c.args.wrappers.now c.args.wrappers.now 0 c.index-wrappers-0-2.result c.feed-2.new.self
+    g.S.LineWrapper.whole c.in_err-feed.ensures.same refl
+
+pub loop-position-init : goal.loop-position-init
+loop-position-init g c =
+    let some : 0 < length c.args.wrappers.now = omega arith in
+    record {
+      flows = flow_step c.args.wrappers.now c.args.wrappers.now 0 c.index-wrappers-0-2.result c.feed-2.new.self
+          g.S.LineWrapper.rest
+          c.args.piece.now c.args.piece.now _ _ _ _ some (λ later. refl) refl c.clear.ensures.items c.in_ok-feed.ensures.fed refl;
+      wholes = wholes_more c.args.wrappers.now c.args.wrappers.now 0 c.index-wrappers-0-2.result c.feed-2.new.self
+          g.S.LineWrapper.whole c.in_ok-feed.ensures.same refl;
+    }
 
 pub returns-in_err-feed-2-clause-wholes : goal.returns-in_err-feed-2-clause-wholes
 returns-in_err-feed-2-clause-wholes g c =

@@ -1,8 +1,11 @@
 use Rattle.std.proofs.Common.{[], ◌∷◌, take}
 use Rattle.byte_streams.proofs.FeedLemmas.{goes_line}
-use Rattle.byte_streams.proofs.PartLemmas.{behind, cut_at, one_line_all}
+use Rattle.byte_streams.proofs.PartLemmas.{behind, cut_at, one_line_all, one_line_before}
 use Rattle.byte_streams.proofs.WrapperLemmas.{deleted_from-feed}
 use Rattle.byte_streams.proofs.wrappers.delete_returns.Goals as goal
+
+pub hold_return-requires : goal.hold_return-requires
+hold_return-requires c = one_line_before c.loop-end.rest.now c.in-Some.end c.in-Some.ensures.0
 
 pub loop-end-preserved : goal.loop-end-preserved
 loop-end-preserved c =

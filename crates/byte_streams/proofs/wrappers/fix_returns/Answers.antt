@@ -1,10 +1,13 @@
 use Rattle.std.proofs.Common.{◌≡◌, [], ◌∷◌, ◌++◌, take, sym, ap, ◌∙◌, append_assoc}
 use Rattle.std.proofs.lemmas.List.{append-nil}
 use Rattle.byte_streams.proofs.FeedLemmas.{goes_line}
-use Rattle.byte_streams.proofs.PartLemmas.{behind, cut_at, one_line_all}
+use Rattle.byte_streams.proofs.PartLemmas.{behind, cut_at, one_line_all, one_line_before}
 use Rattle.byte_streams.proofs.WrapperLemmas.{fixed_from-feed, line_end, missing_return}
 use Rattle.byte_streams.proofs.wrappers.fix_returns.Goals as goal
 use Rattle.byte_streams.proofs.wrappers.fix_returns.Goals.{then-not-after_cr+in_ok-extend_from_slice, else-not-after_cr}
+
+pub note_return-requires : goal.note_return-requires
+note_return-requires c = one_line_before c.loop-end.rest.now c.in-Some.end c.in-Some.ensures.0
 
 pub loop-end-preserved : goal.loop-end-preserved
 loop-end-preserved c =

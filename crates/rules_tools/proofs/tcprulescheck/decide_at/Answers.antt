@@ -4,19 +4,17 @@ use Rattle.std.specs.Option.{option_map, option_copied, IsSomeAnd}
 use Rattle.std.proofs.lemmas.Bool.{false≢true}
 use Rattle.cdb_files.specs.Reading.{reading}
 use Rattle.cdb_files.specs.Sources as cdb
-use Rattle.rule_lookup.specs.declared.code.CodeFault.{CodeFault}
 use Rattle.rule_lookup.specs.declared.code.CodeFault.TheVariants.{NotCode}
-use Rattle.rule_lookup.specs.declared.source.FindFault.{FindFault}
-use Rattle.rule_lookup.specs.declared.source.FindFault.TheVariants.{Short}
-use Rattle.rule_lookup.specs.Lookups.{WhereKnown}
+use Rattle.rule_lookup.specs.declared.source.FindFault.TheVariants.{Short, Device as DeviceToFind, OutOfMemory as NoMemoryToFind}
+use Rattle.rule_lookup.specs.Lookups.{Sound, WhereKnown}
 use Rattle.rule_lookup.specs.declared.decision.DecideFault.{DecideFault}
-use Rattle.rule_lookup.specs.declared.decision.DecideFault.TheVariants.{Find, Code}
+use Rattle.rule_lookup.specs.declared.decision.DecideFault.TheVariants.{Find, Code, OutOfMemory as NoMemory}
 use Rattle.rule_lookup.specs.declared.decision.Decision.{Decision}
 use Rattle.rule_lookup.specs.declared.decision.WhenMissing.TheVariants.{Deny as DenyMissing}
 use Rattle.rule_lookup.specs.Decisions.{decision_from, finds_of, trust_of, DecisionFails}
 use Rattle.rule_lookup.specs.Peers.{Client}
-use Rattle.rules_tools.specs.declared.tcprulescheck.CheckFault.TheVariants.{Damaged}
-use Rattle.rules_tools.specs.Checks.{FailsBy}
+use Rattle.rules_tools.specs.Checks.{Blames, FailsBy}
+use Rattle.rules_tools.specs.Told.{told_decide}
 use Rattle.rules_tools.proofs.tcprulescheck.decide_at.Goals as goal
 
 -- the source that is made of a file is that file
@@ -47,26 +45,39 @@ module _ {F : Type 0} (bytes : F → List ℕ) (honest sound : Bool) (source : O
       ∙ known honest sound source (decision_from (finds_of (λ (s : F) key. reading (bytes s) key) source) DenyMissing peer ≡ r) is decided
 
   -- and it fails for damage alone
-  damaged-short : (fault : DecideFault) (of_file : FindFault) → fault ≡ Find of_file → of_file ≡ Short → DecisionFails (trust_of (λ (s : F). cdb.trust_of honest sound) source) (decision_from (finds_of (λ (s : F) key. reading (bytes s) key) source) DenyMissing peer) fault → FailsBy file peer Damaged
-  damaged-short fault of_file find short fails =
-      inl (decision-file (Err (Find Short)) (rw (find ∙ ap Find short) at fails))
+  fails_by : (fault : DecideFault) → DecisionFails (trust_of (λ (s : F). cdb.trust_of honest sound) source) (decision_from (finds_of (λ (s : F) key. reading (bytes s) key) source) DenyMissing peer) fault → FailsBy file peer (told_decide fault)
+  fails_by (Find Short) fails = inl (decision-file (Err (Find Short)) fails)
+  fails_by (Find DeviceToFind) fails = tt
+  fails_by (Find NoMemoryToFind) fails = tt
+  fails_by (Code NotCode) fails = inr (decision-file (Err (Code NotCode)) fails)
+  fails_by NoMemory fails = tt
 
-  damaged-code : (fault : DecideFault) (code : CodeFault) → fault ≡ Code code → DecisionFails (trust_of (λ (s : F). cdb.trust_of honest sound) source) (decision_from (finds_of (λ (s : F) key. reading (bytes s) key) source) DenyMissing peer) fault → FailsBy file peer Damaged
-  damaged-code fault NotCode is_code fails =
-      inr (decision-file (Err (Code NotCode)) (rw is_code at fails))
+-- a device is blamed for a file that is not sound
+sound_is : {F : Type 0} (honest sound : Bool) (source : Option (Bor F)) → IsTrue sound → trust_of (λ (s : F). cdb.trust_of honest sound) source ≡ Sound
+sound_is honest sound None is = refl
+sound_is honest true (Some s) is = refl
+sound_is honest false (Some s) is = absurd (false≢true is)
 
-pub returns-in-Ok-decide-clause-decided : goal.returns-in-Ok-decide-clause-decided
-returns-in-Ok-decide-clause-decided g c honest =
+blames : {F : Type 0} (honest sound : Bool) (source : Option (Bor F)) (expected : Result Decision DecideFault) (before now : ℕ) (fault : DecideFault)
+    → DecisionFails (trust_of (λ (s : F). cdb.trust_of honest sound) source) expected fault → Blames before now sound (told_decide fault)
+blames honest sound source expected before now (Find DeviceToFind) fails = λ is. fails (sound_is honest sound source is)
+blames honest sound source expected before now (Find Short) fails = tt
+blames honest sound source expected before now (Find NoMemoryToFind) fails = tt
+blames honest sound source expected before now (Code fault) fails = tt
+blames honest sound source expected before now NoMemory fails = tt
+
+pub returns-in-Ok-decided-clause-decided : goal.returns-in-Ok-decided-clause-decided
+returns-in-Ok-decided-clause-decided g c honest =
     decision-file g.D.File.RulesFile.bytes g.D.File.RulesFile.honest g.D.File.RulesFile.sound c.as_ref.result c.in-Ok.file c.map-file.result _ c.args.peer.now (g.met.D.Dir.honest_files honest)
-    c.as_ref.ensures.value (source-opened _ _ c.map-file.ensures.cases) (c.in-Ok.ensures.opened honest) _ c.in-Ok-decide.ensures.decided
+    c.as_ref.ensures.value (source-opened _ _ c.map-file.ensures.cases) (c.in-Ok.ensures.opened honest) _ c.in-Ok-decided.ensures.decided
 
-pub returns-in-Err-Find-Short-clause-refused : goal.returns-in-Err-Find-Short-clause-refused
-returns-in-Err-Find-Short-clause-refused g c honest =
-    damaged-short g.D.File.RulesFile.bytes g.D.File.RulesFile.honest g.D.File.RulesFile.sound c.as_ref.result c.in-Ok.file c.map-file.result _ c.args.peer.now (g.met.D.Dir.honest_files honest)
-    c.as_ref.ensures.value (source-opened _ _ c.map-file.ensures.cases) (c.in-Ok.ensures.opened honest) _ _ c.in-Err-Find-Short.field-0-is c.in-Err-Find-Short.field-0-0-is
-    c.in-Err-Find-Short.ensures.refused
+pub returns-in-Err-decided-clause-refused : goal.returns-in-Err-decided-clause-refused
+returns-in-Err-decided-clause-refused g c honest =
+    rw c.told.ensures
+    (fails_by g.D.File.RulesFile.bytes g.D.File.RulesFile.honest g.D.File.RulesFile.sound c.as_ref.result c.in-Ok.file c.map-file.result _ c.args.peer.now (g.met.D.Dir.honest_files honest)
+    c.as_ref.ensures.value (source-opened _ _ c.map-file.ensures.cases) (c.in-Ok.ensures.opened honest) c.in-Err-decided.fault c.in-Err-decided.ensures.refused)
 
-pub returns-in-Err-Code-clause-refused : goal.returns-in-Err-Code-clause-refused
-returns-in-Err-Code-clause-refused g c honest =
-    damaged-code g.D.File.RulesFile.bytes g.D.File.RulesFile.honest g.D.File.RulesFile.sound c.as_ref.result c.in-Ok.file c.map-file.result _ c.args.peer.now (g.met.D.Dir.honest_files honest)
-    c.as_ref.ensures.value (source-opened _ _ c.map-file.ensures.cases) (c.in-Ok.ensures.opened honest) _ _ c.in-Err-Code.field-0-is c.in-Err-Code.ensures.refused
+pub returns-in-Err-decided-clause-blames : goal.returns-in-Err-decided-clause-blames
+returns-in-Err-decided-clause-blames g c =
+    rw c.told.ensures
+    (blames g.D.File.RulesFile.honest g.D.File.RulesFile.sound c.as_ref.result _ _ _ c.in-Err-decided.fault c.in-Err-decided.ensures.refused)
