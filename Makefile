@@ -62,7 +62,7 @@ test:
 	@tests/run --tried $(GROUPS)
 
 run:
-	@test -e $(PROGRAM) || echo "There is no proved program yet: it is proved and built first, in half an hour or so on four cores; make try takes two."
+	@test -e $(PROGRAM) || echo "There is no proved program yet: it is proved and built first, in half an hour or so on four cores; make try takes a minute."
 	@$(MAKE) -s $(PROGRAM)
 	$(PROGRAM) rulesim <crates/ucspi/stdin
 

@@ -57,7 +57,7 @@ def amiss(crate, part):
         if not re.search(r"\b(?:fn|mod) %s\b" % name, text):
             return [head]
         text = contracts(text, name) or text
-    return [clause for clause in clauses if not re.search(r"\bensures %s\b" % clause, text)]
+    return [clause for clause in clauses if not re.search(r"\b(?:ensures|requires) %s\b" % clause, text)]
 
 
 def edits():

@@ -245,6 +245,20 @@ def never_reading(suite):
         suite.audit("clients that do not read", server)
 
 
+def unread_bytes(suite):
+    """What a client sends to a program that reads nothing costs the client nothing of the output."""
+    with suite.start(["-v", "-c", "1"] + server_runs.QUIET, ["sh", "-c", "exec <&-; sleep 1; head -c 400000 /dev/zero"]) as server:
+        for number in (1, 2):
+            with server.connect() as client:
+                for _ in range(3):
+                    client.sendall(b"one\n")
+                    time.sleep(0.1)
+                time.sleep(1.5)
+                suite.expect("unread bytes: %d" % number, len(read_all(client)), 400000)
+        server.idle()
+        suite.audit("unread bytes", server)
+
+
 def half_closed(suite):
     """Each end closes one way of its own, in each order: the program's exit code is told, and the place is free only then."""
     cases = [
@@ -429,7 +443,7 @@ def writing_on(suite):
 
 
 CHECKS = [
-    storm, stages, unread_banner, slow_clients, never_reading, half_closed, stopped_programs, writing_on, burst, full_queue,
+    storm, stages, unread_banner, slow_clients, never_reading, unread_bytes, half_closed, stopped_programs, writing_on, burst, full_queue,
 ]
 COMMON = [storm, stages, slow_clients, never_reading, half_closed, stopped_programs, writing_on, burst, full_queue]
 HANDED = [storm, stages, unread_banner, slow_clients, never_reading, half_closed, stopped_programs, writing_on, burst, full_queue]

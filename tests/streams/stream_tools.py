@@ -201,6 +201,18 @@ class Streams(Runs):
         shell = ["sh", "-c", '"$0" fixcrio sh -c "cat; exit 7" <&-', self.program]
         ended = subprocess.run(shell, stdout=subprocess.PIPE, stderr=subprocess.PIPE, timeout=LIMIT)
         self.ended("fixcrio: without standard input", ended, 7, b"")
+        self.check_without_descriptors()
+
+    def check_without_descriptors(self):
+        """What a program writes, or what is recorded, never comes to the program's own input."""
+        for tool in ("fixcrio", "recordio"):
+            for close in ("<&- >&-", "<&- 2>&-", ">&- 2>&-", "<&- >&- 2>&-"):
+                with tempfile.TemporaryDirectory() as folder:
+                    seen = os.path.join(folder, "seen")
+                    shell = ["sh", "-c", 'sleep 0.4 | "$0" %s sh -c "echo answer; sleep 0.2; timeout 5 cat >$1" %s' % (tool, close), self.program, seen]
+                    subprocess.run([word.replace("$1", seen) for word in shell[:4]], stdout=subprocess.DEVNULL, stderr=subprocess.DEVNULL, timeout=LIMIT)
+                    with open(seen, "rb") as file:
+                        self.expect("%s %s: what its program reads" % (tool, close), file.read(), b"")
 
     def check_records(self):
         for port, number in ((None, 0), ("1024", 1024), ("00025", 25), ("65535", 65535), ("65536", 0), ("000025", 0), ("", 0), ("x1", 0)):

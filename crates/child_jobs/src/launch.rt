@@ -1,5 +1,5 @@
 //! Programs, the jobs that run them, and what starts a job.
-ghost use Rattle.std.specs.Prelude.{◌≡◌, true, false, Bool, Result, map, string_bytes, IfOk, IfErr, OnOk};
+ghost use Rattle.std.specs.Prelude.{◌≡◌, true, false, Bool, Result, map, string_bytes, IfOk, IfErr, OnOk, IsTrue};
 ghost use Rattle.child_jobs.specs.declared.outcome.NotStarted.{NotStarted as Refusal};
 ghost use Rattle.child_jobs.specs.declared.outcome.Status.{Status as StatusOf};
 ghost use Rattle.child_jobs.specs.declared.launch.WaitFault.{WaitFault};
@@ -155,6 +155,9 @@ pub trait Launcher {
     /// The job that it starts.
     type Job: Job;
 
+    /// Whether it may be asked to start this program with these variables. Who lends a launcher says when.
+    ghost may: { Self → ProgramText → Variables → Bool };
+
     /// Why it may refuse a program with these variables. A launcher of which nothing is known may answer anything.
     ghost refuses: { Self → ProgramText → Variables → Refusal → Type 0 };
 
@@ -174,6 +177,7 @@ pub trait Launcher {
     ) -> Result<Self::Job, NotStarted>
     where
         Self: Sized,
+        requires may { IsTrue (may self program.now environment.now) }
         ensures refused { IfErr result (refuses self program.now environment.now) }
         ensures program { IfOk result (λ job. Self.Job.program job ≡ program.now) }
         ensures environment { IfOk result (λ job. Self.Job.environment job ≡ environment.now) };

@@ -1,5 +1,5 @@
 //! A child and its place, from start to end.
-ghost use Rattle.std.specs.Prelude.{◌≡◌, ◌+◌, IfOk, IfErr, OnOk, true, false};
+ghost use Rattle.std.specs.Prelude.{◌≡◌, ◌+◌, IfOk, IfErr, OnOk, true, false, IsTrue};
 ghost use Rattle.child_jobs.specs.PlacesOut.{is_used};
 ghost use Rattle.child_jobs.specs.Runs.{IsSameRun, job_of, place_of};
 
@@ -90,6 +90,7 @@ pub fn start<L: Ledger, S: Launcher>(
     program: &Program,
     environment: &Environment,
 ) -> Result<Running<L, S::Job>, (Place<L>, NotStarted)>
+    requires may { IsTrue (S.may launcher program.now environment.now) }
     ensures place { IfOk result (λ running. place_of running ≡ place) }
     ensures program { IfOk result (λ running. S.Job.program (job_of running) ≡ program.now) }
     ensures environment { IfOk result (λ running. S.Job.environment (job_of running) ≡ environment.now) }

@@ -53,6 +53,12 @@ pub record IsChild (finds : Opening → Type 0) (honest sound : Bool) (peer : Cl
   pub allowed : IsPrepared finds honest sound peer local plan Allow environment
   pub planned : program ≡ plan.program
 
+-- a program may be started by each decision to allow: the plan's, with the variables that the decision gives
+abbrev pub MayStart : (finds : Opening → Type 0) → (honest sound : Bool) → Client → LocalEnd → PlanText
+    → (may : ProgramText → Variables → Bool) → Type 0
+MayStart finds honest sound peer local plan may =
+    (environment : Variables) → IsPrepared finds honest sound peer local plan Allow environment → IsTrue (may plan.program environment)
+
 -- a program was refused in a way in which it may be, of which this fault is told
 pub record RefusesBy (refuses : NotStarted → Type 0) (fault : StartFault) : Type 0 where
   pub refusal : NotStarted

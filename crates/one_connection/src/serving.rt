@@ -1,12 +1,12 @@
 //! A connection from its admission to the start of its child.
-ghost use Rattle.std.specs.Prelude.{◌≡◌, ◌≢◌, ℕ, [], false, IfOk, IfErr, OnErr, is_err};
+ghost use Rattle.std.specs.Prelude.{◌≡◌, ◌≢◌, ℕ, [], false, IfOk, IfErr, OnErr, is_err, IsTrue};
 ghost use Rattle.child_jobs.specs.Runs.{job_of, place_of};
 ghost use Rattle.rule_lookup.specs.declared.instr.Verdict.TheVariants.{Allow, Deny};
 ghost use Rattle.child_jobs.specs.declared.outcome.DropCause.TheVariants as cause;
 ghost use Rattle.server_events.specs.declared.event.Event.TheVariants.{Dropped, StartFailed};
 ghost use Rattle.server_events.specs.declared.event.Stage.TheVariants as stage;
 ghost use Rattle.one_connection.specs.Openings.{WasFound};
-ghost use Rattle.one_connection.specs.Servings.{ComesAt, Drops, FailsFor, Greets, HasCome, IfDropped, IfRunning, IfStartFailed, IsChild, IsDecidedAs, IsLastTold, IsPrepared, IsRefused, OnDenied, RefusesBy, UnlessRunning, cause_of, is_cut_short, last_event};
+ghost use Rattle.one_connection.specs.Servings.{ComesAt, Drops, FailsFor, Greets, HasCome, IfDropped, IfRunning, IfStartFailed, IsChild, IsDecidedAs, IsLastTold, IsPrepared, IsRefused, MayStart, OnDenied, RefusesBy, UnlessRunning, cause_of, is_cut_short, last_event};
 ghost use Rattle.one_connection.specs.Unstarted.{IsUnstarted, StandsUndenied};
 
 use crate::agent::Agent;
@@ -146,6 +146,7 @@ fn run<L: Assumptions, D: Agent<L, Place = Place<L>>, S: Launcher>(
 ) -> Served<L, S::Job>
     requires index { (place : ℕ) → D.index place ≡ place }
     requires stands { D.stands agent.old place serial peer.now (stage.Decided Allow) }
+    requires may { IsTrue (S.may launcher plan.now.program environment.now) }
     ensures running { IfRunning result (λ child. (S.Job.program (job_of child) ≡ plan.now.program)
         × (S.Job.environment (job_of child) ≡ environment.now)) }
     ensures started { IfRunning result (λ child. (place_of child ≡ place)
@@ -193,6 +194,8 @@ pub fn serve_one<L: Assumptions, D: Agent<L, Place = Place<L>>, S: Launcher + Dr
 ) -> Served<L, S::Job>
     requires index { (place : ℕ) → D.index place ≡ place }
     requires admitted { D.stands agent.old place serial peer.now stage.Admitted }
+    // so the launcher is asked for nothing but the decided program
+    requires may { MayStart (D.finds agent.old) D.honest D.sound peer.now local.now plan.now (S.may launcher) }
     // the decided program, with the decided environment
     ensures running { IfRunning result (λ child. IsChild (WasFound (D.found agent.new) (D.finds agent.old)) D.honest D.sound
         peer.now local.now plan.now (S.Job.program (job_of child)) (S.Job.environment (job_of child))) }

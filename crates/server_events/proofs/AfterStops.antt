@@ -12,9 +12,8 @@ use Rattle.server_events.specs.ServerState.{ServerState, newcomer, stage_of, Eff
 use Rattle.server_events.specs.Steps.{Legal, Step, none, more, beside}
 use Rattle.server_events.specs.Worlds.{World}
 use Rattle.server_events.proofs.History.{room_for}
-use Rattle.server_events.proofs.Effects.{Sound, is_admitted-true, is_opened-true, sound}
+use Rattle.server_events.proofs.Effects.{Sound, is_admitted-true, is_opened-true, sound, step_is}
 use Rattle.server_events.proofs.Serials.{Rise, Rise-le, Rise-push, Rise-with_stage, Rise-without}
-use Rattle.server_events.proofs.TableLemmas.{step_is}
 
 -- a serial that has a stage is above the number from which the serials rise
 above_low : (n : ℕ) (t : Stage) (low : ℕ) (cs : List Connection) (high : ℕ) → Rise low cs high → stage_of n cs ≡ Some t → low < n

@@ -5,7 +5,8 @@ use Rattle.std.proofs.lemmas.List.Elements.{filter-append, filter_agree, filter_
 use Rattle.rule_lookup.specs.Peers.{Client}
 use Rattle.server_events.specs.declared.event.Event.{Event}
 use Rattle.server_events.specs.declared.event.Event.TheVariants.{Admitted}
-use Rattle.server_events.specs.Live.{Life, admission, ends}
+use Rattle.server_events.specs.ServerState.{ends}
+use Rattle.server_events.specs.Live.{Life, admission}
 use Rattle.server_events.proofs.ListLemmas.{list_any-push, filter-filter, filter-all, not_or}
 
 -- who is alive by the events since a stop

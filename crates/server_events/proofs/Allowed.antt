@@ -10,7 +10,7 @@ use Rattle.server_events.specs.Worlds.{World}
 use Rattle.server_events.proofs.History.{both_true, is_legal-take}
 use Rattle.server_events.proofs.Limits.{within, limit_world_after, per_address_world_after}
 use Rattle.server_events.proofs.LiveLemmas.{live_run, live_at-count_from, length-lives_of}
-use Rattle.server_events.proofs.TableLemmas.{step_is}
+use Rattle.server_events.proofs.Effects.{step_is}
 
 -- the table allows the events of a list of steps, and leads to the same state
 pub legal_is : {v w : World} {history : List Event} → Legal v history w → (is_legal v.server history ≡ true) × (w.server ≡ state_after v.server history)

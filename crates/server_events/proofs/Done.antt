@@ -9,10 +9,10 @@ use Rattle.server_events.specs.Headline.{Reaches}
 use Rattle.server_events.specs.declared.event.Event.{Event}
 use Rattle.server_events.specs.declared.event.Event.TheVariants.{Stepped}
 use Rattle.server_events.specs.Steps.{MayLeave, Step}
-use Rattle.server_events.specs.Table.{Follows, done}
+use Rattle.server_events.specs.ServerState.{Follows, done}
 use Rattle.server_events.specs.Worlds.{Accepted, IsAccepted, IsOf, RulesName, StandsFor, UnderWay, World}
 use Rattle.server_events.proofs.Openings.{moves_same, reaches_next}
-use Rattle.server_events.proofs.TableLemmas.{may_come_follows, step_is}
+use Rattle.server_events.proofs.Effects.{may_come_follows, step_is}
 use Rattle.server_events.proofs.WholeText.{Agree, good_reached, good_rules, position_below, reached_whole}
 
 -- the number of the text under way is the last one, and is its

@@ -27,7 +27,7 @@ use Rattle.server_events.specs.declared.event.Event.TheVariants.{Stepped}
 use Rattle.server_events.specs.ServerState.{ServerState, phase_after}
 use Rattle.server_events.specs.Steps.{Legal, Step, none, more, beside}
 use Rattle.server_events.specs.Worlds.{Accepted, IsOf, KeptFile, RulesName, UnderWay, World}
-use Rattle.server_events.proofs.TableLemmas.{is_step}
+use Rattle.server_events.proofs.Effects.{is_step}
 
 -- one list of steps after another
 pub legal_then : {u v w : World} {first second : List Event} → Legal u first v → Legal v second w → Legal u (first ++ second) w

@@ -23,7 +23,6 @@ pub mod Peers
 pub mod Serials
 pub mod StandingTexts
 pub mod StartedAgain
-pub mod TableLemmas
 pub mod TwoProcesses
 pub mod TwoTexts
 pub mod WholeText

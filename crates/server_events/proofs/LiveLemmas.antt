@@ -12,9 +12,9 @@ use Rattle.server_events.specs.declared.event.Stage.TheVariants as stage
 use Rattle.server_events.specs.declared.event.Event.{Event}
 use Rattle.server_events.specs.declared.event.Event.TheVariants.{Admitted, Stop}
 use Rattle.server_events.specs.declared.state.Connection.{Connection}
-use Rattle.server_events.specs.Live.{Life, is_stop, stops_by, since_stop, admission, admission_by, ends, retires, live_of, retired_of, life_of, lives_of}
+use Rattle.server_events.specs.Live.{Life, is_stop, stops_by, since_stop, admission, admission_by, live_of, retired_of, life_of, lives_of}
 use Rattle.server_events.specs.Reports.{greatest}
-use Rattle.server_events.specs.ServerState.{ServerState, start, stage_of, with_stage, without, count_from, is_retired, may_happen, after, phase_after, is_legal, state_after, newcomer, Effect, lets_in, opens, decides, brings, lets_go, comes_to, fails_at, ends_all, effect, may_have, with_effect}
+use Rattle.server_events.specs.ServerState.{ServerState, start, stage_of, with_stage, without, count_from, is_retired, may_happen, after, phase_after, is_legal, state_after, newcomer, Effect, lets_in, opens, decides, brings, lets_go, comes_to, fails_at, ends_all, effect, may_have, with_effect, ends, retires}
 use Rattle.server_events.proofs.Alive.{alive, alive-kept, alive-ended, alive-admitted}
 use Rattle.server_events.proofs.Effects.{IsEventOf, Sound, before_retired, ends_as, ends_by, is_admitted-true, is_opened-true, its_event, rank, retires_as, retires_by, sound}
 use Rattle.server_events.proofs.Marks.{Marked, marked_after, marked-push, marked-without, marked-with_stage, marked-retired, marked-count}

@@ -7,8 +7,8 @@ use Rattle.std.proofs.lemmas.List.Sums.{sum_by-cons}
 use Rattle.server_events.specs.declared.event.Stage.{Stage}
 use Rattle.server_events.specs.declared.event.Event.{Event}
 use Rattle.server_events.specs.declared.state.Connection.{Connection}
-use Rattle.server_events.specs.Live.{Life, retires, life_of, lives_of}
-use Rattle.server_events.specs.ServerState.{stage_of, with_stage, without, is_retired}
+use Rattle.server_events.specs.Live.{Life, life_of, lives_of}
+use Rattle.server_events.specs.ServerState.{stage_of, with_stage, without, is_retired, retires}
 use Rattle.server_events.proofs.ListLemmas.{list_any-push, or_keeps, or_true}
 use Rattle.server_events.proofs.Serials.{Rise}
 

@@ -31,7 +31,7 @@ use Rattle.server_events.specs.Worlds.{Accepted, IsOf, IsStart, KeptFile, RulesN
 use Rattle.server_events.proofs.Everybody.{for_allow, for_deny}
 use Rattle.server_events.proofs.InstalledRuns.{content_synced, decided_by_file, filled_dir, in_phase, installs, legal_then, named_dir, named_synced, next_text, world_at}
 use Rattle.server_events.proofs.StandingTexts.{begins_alone}
-use Rattle.server_events.proofs.TableLemmas.{is_step}
+use Rattle.server_events.proofs.Effects.{is_step}
 
 -- ---- what was settled stays so
 

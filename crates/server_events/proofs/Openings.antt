@@ -21,10 +21,9 @@ use Rattle.server_events.specs.Steps.{Advances, Legal, Moves, Outside, Step, non
 use Rattle.server_events.specs.Worlds.{IsStart, KeptFile, RulesName, StandsFor, World, kept_by, missing_by, missing_in, peer_of, standing}
 use Rattle.server_events.proofs.History.{room_for}
 use Rattle.server_events.proofs.InstalledRuns.{decided_by_file, legal_then}
-use Rattle.server_events.proofs.Effects.{IsEventOf, Sound, is_admitted-true, its_event, is_opened-true, not_admitted, not_opened, sound}
+use Rattle.server_events.proofs.Effects.{IsEventOf, Sound, is_admitted-true, its_event, is_opened-true, not_admitted, not_opened, sound, step_is}
 use Rattle.server_events.proofs.Peers.{stage_of-peer_of, stage_of-with_stage_is, peer_of-with_stage, peer_of-without_other, peer_of-without, stage_of-without_is, stage_of-push_other, peer_of-push_other, stage_of-push_is}
 use Rattle.server_events.proofs.Serials.{Rise, Rise-push, Rise-with_stage, Rise-without, stage_of-le}
-use Rattle.server_events.proofs.TableLemmas.{step_is}
 use Rattle.server_events.proofs.WholeText.{reached_standing}
 
 -- ---- what connections keep

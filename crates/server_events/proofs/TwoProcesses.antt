@@ -20,7 +20,7 @@ use Rattle.server_events.proofs.Everybody.{for_allow, for_deny}
 use Rattle.server_events.proofs.InstalledRuns.{content_synced, filled_dir, finishes, in_phase, installs, legal_then, named_dir, named_synced, next_text, synced_dir, world_at}
 use Rattle.server_events.proofs.Others.{made_others, standing_on}
 use Rattle.server_events.proofs.StandingTexts.{begins_alone}
-use Rattle.server_events.proofs.TableLemmas.{is_step}
+use Rattle.server_events.proofs.Effects.{is_step}
 use Rattle.server_events.proofs.TwoTexts.{decides_kept, decides_somebody, everybody, no_files, other_name, texts_0, texts_1, the_rules, the_scratch}
 use Rattle.server_events.proofs.WovenSteps.{its_parts}
 use Rattle.dir_calls.proofs.Scratches.{appended_is}

@@ -22,15 +22,14 @@ use Rattle.dir_calls.specs.declared.phase.Phase.TheVariants.{Named, Done}
 use Rattle.server_events.specs.declared.event.Event.TheVariants.{Admitted, Opened, Decided, Started, Retired, Dropped, Stop}
 use Rattle.server_events.specs.Headline.{Reaches}
 use Rattle.server_events.specs.Live.{retired_of}
-use Rattle.server_events.specs.ServerState.{ServerState, start, after as after_event}
+use Rattle.server_events.specs.ServerState.{ServerState, start, after as after_event, done}
 use Rattle.server_events.specs.Steps.{Legal, Step, none, more}
-use Rattle.server_events.specs.Table.{done}
 use Rattle.server_events.specs.Witness.{for_everybody, somebody, texts_of_it, two_texts}
 use Rattle.server_events.specs.Worlds.{Accepted, IsOf, IsStart, KeptFile, RulesName, UnderWay, World}
 use Rattle.server_events.proofs.Everybody.{for_allow, for_deny}
 use Rattle.server_events.proofs.InstalledRuns.{content_left, content_synced, decided_by_file, finishes, in_phase, installs, legal_then, named_dir, named_synced, next_text, world_at}
 use Rattle.server_events.proofs.StandingTexts.{begins_alone}
-use Rattle.server_events.proofs.TableLemmas.{is_step}
+use Rattle.server_events.proofs.Effects.{is_step}
 
 -- ---- the names, the decisions, and the states of the server
 

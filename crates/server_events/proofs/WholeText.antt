@@ -15,15 +15,14 @@ use Rattle.dir_calls.proofs.NameTables.{current-push}
 use Rattle.dir_calls.proofs.Passing.{passes_end}
 use Rattle.dir_calls.proofs.Renames.{moved_files, moved_number}
 use Rattle.server_events.specs.declared.event.Event.{Event}
-use Rattle.server_events.specs.ServerState.{ServerState, phase_after, Effect, lets_in, opens, decides, brings, lets_go, comes_to, fails_at, ends_all, effect, may_have, with_effect}
-use Rattle.server_events.specs.Table.{Follows, fresh, filling, filling_on, synced, named, done}
+use Rattle.server_events.specs.ServerState.{ServerState, phase_after, Effect, lets_in, opens, decides, brings, lets_go, comes_to, fails_at, ends_all, effect, may_have, with_effect, Follows, fresh, filling, filling_on, synced, named, done}
 use Rattle.server_events.specs.Steps.{Advances, FailsTo, IsCallTo, IsScratchName, IsWhole, LeavesAlone, LeavesRules, LeavesScratch, MakesScratch, Legal, MayBeAt, MayLeave, Moves, Outside, Step, none, more, beside, MovesBy}
 use Rattle.server_events.specs.Worlds.{Accepted, HoldsRules, IsAccepted, IsStart, RulesName, StartsWith, UnderWay, World, standing}
 use Rattle.server_events.specs.Headline.{HasWholeText, Reaches}
 use Rattle.server_events.proofs.LeftNames.{PutsOnly, left_now, names-with_scratch, scratch-with_scratch}
 use Rattle.server_events.proofs.Others.{file_on, lasts_on}
 use Rattle.server_events.proofs.StandingTexts.{IsText, Lasts, image_lasts, lasts_accepted, lasts_failed, lasts_missing, lasts_more, lasts_settled, lasts_within}
-use Rattle.server_events.proofs.TableLemmas.{may_come_follows, step_is}
+use Rattle.server_events.proofs.Effects.{may_come_follows, step_is}
 
 -- ---- what holds in each world
 

@@ -5,9 +5,8 @@ use Rattle.server_events.specs.declared.event.Event.{Event}
 use Rattle.server_events.specs.declared.event.Event.TheVariants.{Opened}
 use Rattle.server_events.specs.declared.event.Stage.TheVariants as stage
 use Rattle.server_events.specs.Processes.{InstallerSteps, ServerSteps, Woven, none as no_more, serves, installs as woven_installs, stops, outside as woven_outside}
-use Rattle.server_events.specs.ServerState.{ServerState, after, stage_of}
+use Rattle.server_events.specs.ServerState.{ServerState, after, stage_of, HasStage, opened}
 use Rattle.server_events.specs.Steps.{Outside}
-use Rattle.server_events.specs.Table.{HasStage, opened}
 use Rattle.server_events.specs.Within.{FindsWithin, OthersGo, none, installs, outside, noting, with_opening}
 use Rattle.server_events.specs.Worlds.{KeptFile, World, standing}
 

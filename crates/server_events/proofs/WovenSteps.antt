@@ -6,12 +6,10 @@ use Rattle.dir_calls.specs.declared.phase.Phase.TheVariants.{Fresh, Filling, Syn
 use Rattle.server_events.specs.declared.event.Event.{Event}
 use Rattle.server_events.specs.declared.event.Event.TheVariants.{Stepped, StepFailed}
 use Rattle.server_events.specs.Processes.{InstallerSteps, KeepsInstallers, KeepsServer, ServerSteps, Woven, is_connections, is_installations, none, serves, installs, stops, outside, of_installers, of_server, of_connections, of_installations}
-use Rattle.server_events.specs.ServerState.{ServerState, after, phase_after, start, Effect, lets_in, opens, decides, brings, lets_go, comes_to, fails_at, ends_all, effect, may_have, with_effect}
+use Rattle.server_events.specs.ServerState.{ServerState, after, phase_after, start, Effect, lets_in, opens, decides, brings, lets_go, comes_to, fails_at, ends_all, effect, may_have, with_effect, Happens}
 use Rattle.server_events.specs.Steps.{Advances, FailsTo, Legal, Step, none as no_more, more, beside, MovesBy}
-use Rattle.server_events.specs.Table.{Happens}
 use Rattle.server_events.specs.Worlds.{Accepted, KeptFile, RulesName, UnderWay, World}
-use Rattle.server_events.proofs.Effects.{IsEventOf, its_event}
-use Rattle.server_events.proofs.TableLemmas.{is_step, step_is}
+use Rattle.server_events.proofs.Effects.{IsEventOf, its_event, is_step, step_is}
 
 -- worlds with the same parts
 same_world : (w v : World) → w.directory ≡ v.directory → w.rules ≡ v.rules → w.server ≡ v.server → w.accepted ≡ v.accepted → w.acknowledged ≡ v.acknowledged → w.under_way ≡ v.under_way → w.kept ≡ v.kept → w ≡ v

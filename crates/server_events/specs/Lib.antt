@@ -4,7 +4,6 @@ pub mod Again
 pub mod ServerState
 pub mod Addresses
 pub mod Kept
-pub mod Table
 pub mod Live
 pub mod Processes
 pub mod Reports

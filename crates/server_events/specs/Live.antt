@@ -3,9 +3,8 @@ use Rattle.std.specs.Prelude.{◌≤◌, ℕ, length, take, List, Bool, true, fa
 use Rattle.std.specs.List.{after_last, filter, filter_map, list_any}
 use Rattle.rule_lookup.specs.Peers.{Client}
 use Rattle.server_events.specs.declared.event.Event.{Event}
-use Rattle.server_events.specs.declared.event.Event.TheVariants.{StartFailed, Ended, Retired, Dropped}
 use Rattle.server_events.specs.declared.state.Connection.{Connection}
-use Rattle.server_events.specs.ServerState.{Effect, lets_in, opens, decides, brings, lets_go, ends_all, effect}
+use Rattle.server_events.specs.ServerState.{Effect, lets_in, opens, decides, brings, lets_go, ends_all, effect, ends, retires}
 
 abbrev pub stops_by : Effect → Bool
 stops_by ends_all = true
@@ -32,13 +31,6 @@ admission_by _ = None
 abbrev pub admission : Event → Option Life
 admission event = admission_by (effect event)
 
--- whether the connection n is gone by this event: its start failed, or it ended, or it was dropped
-abbrev pub ends : ℕ → Event → Bool
-ends n (StartFailed m fault) = n == m
-ends n (Ended m status) = n == m
-ends n (Dropped m cause) = n == m
-ends n _ = false
-
 abbrev pub concerns_by : ℕ → Effect → Bool
 concerns_by n (opens m there) = n == m
 concerns_by n (decides m decision) = n == m
@@ -49,11 +41,6 @@ concerns_by n _ = false
 -- something happens to the connection n, which was let in before
 abbrev pub concerns : ℕ → Event → Bool
 concerns n event = concerns_by n (effect event)
-
--- whether the connection n is retired by this event
-abbrev pub retires : ℕ → Event → Bool
-retires n (Retired m) = n == m
-retires n _ = false
 
 -- The connections that were admitted and have not ended, failed to start, been dropped or been stopped. Retired ones
 -- stay until a stop.

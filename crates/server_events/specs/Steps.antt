@@ -14,8 +14,7 @@ use Rattle.rule_lookup.specs.Peers.{Client}
 use Rattle.dir_calls.specs.declared.phase.Phase.{Phase}
 use Rattle.dir_calls.specs.declared.phase.Phase.TheVariants.{Fresh, Filling, Synced, Named, Done}
 use Rattle.server_events.specs.declared.event.Event.{Event}
-use Rattle.server_events.specs.ServerState.{Effect, opens, decides, comes_to, fails_at, ends_all, effect}
-use Rattle.server_events.specs.Table.{Follows, Happens}
+use Rattle.server_events.specs.ServerState.{Effect, opens, decides, comes_to, fails_at, ends_all, effect, Follows, Happens}
 use Rattle.server_events.specs.Worlds.{IsOf, RulesName, UnderWay, World, kept_by, missing_in, peer_of, standing}
 
 -- a name for a scratch file, which is not the rules name; there is none without a rules name

@@ -19,7 +19,7 @@ use Rattle.server_events.specs.declared.event.Stage.TheVariants as stage
 use Rattle.server_events.specs.Headline.{Reaches}
 use Rattle.server_events.specs.Live.{concerns}
 use Rattle.server_events.specs.Steps.{IsCallTo, Legal, Outside, Step}
-use Rattle.server_events.specs.Table.{Follows, HasStage}
+use Rattle.server_events.specs.ServerState.{Follows, HasStage}
 use Rattle.server_events.specs.Worlds.{Accepted, RulesName, UnderWay, World, kept_by, missing_in, peer_of, standing}
 
 -- an event may happen in a world

@@ -2,6 +2,7 @@
 ghost use Rattle.std.specs.Prelude.{◌≡◌, ◌≤◌, ℕ, ◌+◌, [], ◌∷◌, ◌++◌, true, option_map, option_copied, IfSome, OnOk, OnErr, vec_len, vec_capacity};
 ghost use Rattle.server_events.specs.Journals.{GoesOn, HasSameRoom, TellsOf, next_report, one_more, without_last};
 
+use crate::event::next;
 use crate::{Event, Report};
 use rule_lines::RuleList;
 use std::alloc::{AllocError, Global};
@@ -205,40 +206,5 @@ impl Stored {
     {
         self.credit -= 1;
         self.notes.push_reserved(Noted { event, caller });
-    }
-}
-
-// The report after one more event.
-fn next(report: Report, event: &Event) -> Report
-    ensures { result ≡ next_report report event.now }
-{
-    match event {
-        Event::Admitted { .. } => {
-            let live = report.live.saturating_add(1);
-            Report {
-                admitted: report.admitted.saturating_add(1),
-                live,
-                retired: report.retired,
-                most: live.max(report.most),
-            }
-        }
-        Event::StartFailed { .. } | Event::Ended { .. } | Event::Dropped { .. } => Report {
-            live: report.live.saturating_sub(1),
-            ..report
-        },
-        Event::Retired { .. } => Report {
-            retired: report.retired.saturating_add(1),
-            ..report
-        },
-        Event::Stop => Report {
-            live: 0,
-            retired: 0,
-            ..report
-        },
-        Event::Opened { .. }
-        | Event::Decided { .. }
-        | Event::Started { .. }
-        | Event::Stepped { .. }
-        | Event::StepFailed { .. } => report,
     }
 }

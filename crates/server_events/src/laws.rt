@@ -14,9 +14,8 @@ ghost use Rattle.server_events.specs.Headline.{DecidesByWhatStood, Finishes, Hav
 ghost use Rattle.server_events.specs.Live.{KeepsAddressLimit, KeepsLimit, live_of, lives_of, retired_of, serials_of};
 ghost use Rattle.server_events.specs.Processes.{Woven};
 ghost use Rattle.server_events.specs.Reports.{first_illegal, IsFirstIllegal};
-ghost use Rattle.server_events.specs.ServerState.{AllowedHistory, IsLegalTo, ServerState, may_happen, after, connections_after, is_legal, state_after};
+ghost use Rattle.server_events.specs.ServerState.{AllowedHistory, IsLegalTo, ServerState, may_happen, after, connections_after, is_legal, state_after, Happens, HasStage, IsFull, IsFullFor, Runs};
 ghost use Rattle.server_events.specs.Steps.{IsWhole, Legal, Outside, Step};
-ghost use Rattle.server_events.specs.Table.{Happens, HasStage, IsFull, IsFullFor, Runs};
 ghost use Rattle.server_events.specs.Taken.{AddsText, CanBeChanged, CanStep, CanStepTo, CannotStep, HappensAfterStop, HaveOtherNames, HasShortScratch, IsDue, IsLeftWithin, IsOthers, LeadsTo, MayFail, is_there, with_others};
 ghost use Rattle.server_events.specs.Within.{FindsWithin, noting, with_opening};
 ghost use Rattle.server_events.specs.Witness.{WovenAround, an_older_text, behind_the_kill, texts_of_both, texts_of_it, texts_of_that, two_texts, until_the_kill};

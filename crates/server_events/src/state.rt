@@ -1,14 +1,13 @@
 //! The state that a list of events leads to.
 ghost use Rattle.std.specs.Prelude.{◌≡◌, length, option_copied, true, OnOk, OnErr};
 ghost use Rattle.std.specs.List.{count_by};
-ghost use Rattle.server_events.specs.Reports.{is_admission};
 ghost use Rattle.server_events.specs.Worlds.{peer_of};
-ghost use Rattle.server_events.specs.ServerState.{start, stage_of, with_stage, without, count_from, may_admit, may_come, may_happen, after, is_retired, phase_after};
+ghost use Rattle.server_events.specs.ServerState.{start, stage_of, with_stage, without, count_from, may_admit, after, is_retired};
 
 use crate::addresses::AddressCounts;
 use crate::event::{Event, Stage};
 use dir_calls::Phase;
-use rule_lookup::{Peer, Verdict};
+use rule_lookup::Peer;
 use std::alloc::{AllocError, Global};
 use std::collections::BTreeMap;
 use std::marker::Model;
@@ -34,7 +33,7 @@ pub struct State {
     connections: BTreeMap<u64, Connection>,
     /// How many of them come from each address.
     addresses: AddressCounts,
-    phase: Option<Phase>,
+    pub(crate) phase: Option<Phase>,
 }
 
 impl Model for State {
@@ -81,7 +80,7 @@ impl State {
         }
     }
 
-    fn set_stage(&mut self, serial: u64, stage: Stage)
+    pub(crate) fn set_stage(&mut self, serial: u64, stage: Stage)
         ensures { self.new ≡ record self.old { connections = with_stage serial stage self.old.connections } }
     {
         if let Some(connection) = self.connections.get_mut(&serial) {
@@ -89,7 +88,7 @@ impl State {
         }
     }
 
-    fn remove(&mut self, serial: u64)
+    pub(crate) fn remove(&mut self, serial: u64)
         ensures { self.new ≡ record self.old { connections = without serial self.old.connections } }
     {
         if let Some(connection) = self.connections.remove(&serial) {
@@ -128,7 +127,7 @@ impl State {
         self.addresses.count(ip)
     }
 
-    fn may_admit(&self, serial: u64, peer: &Peer) -> bool
+    pub(crate) fn may_admit(&self, serial: u64, peer: &Peer) -> bool
         ensures { result ≡ may_admit self.now serial peer.now }
     {
         self.last.checked_add(1) == Some(serial)
@@ -136,60 +135,7 @@ impl State {
             && self.live_from(peer.ip()) < self.per_address
     }
 
-    /// Whether an event may happen now, by the table of events.
-    pub fn may_happen(&self, event: &Event) -> bool
-        ensures { result ≡ may_happen self.now event.now }
-    {
-        match event {
-            Event::Admitted { serial, peer } => self.may_admit(*serial, peer),
-            Event::Opened { serial, .. } => matches!(self.stage(*serial), Some(Stage::Admitted)),
-            Event::Decided { serial, .. } => matches!(self.stage(*serial), Some(Stage::Opened)),
-            Event::Started { serial } | Event::StartFailed { serial, .. } => {
-                matches!(self.stage(*serial), Some(Stage::Decided(Verdict::Allow)))
-            }
-            Event::Ended { serial, .. } | Event::Retired { serial } => {
-                matches!(self.stage(*serial), Some(Stage::Started))
-            }
-            Event::Dropped { serial, .. } => {
-                matches!(
-                    self.stage(*serial),
-                    Some(Stage::Admitted | Stage::Opened | Stage::Decided(_))
-                )
-            }
-            Event::Stepped { phase } | Event::StepFailed { phase } => may_come(self.phase, *phase),
-            Event::Stop => true,
-        }
-    }
-
-    /// Applies an event that may happen now. Only an admission may want memory, and without memory nothing changes.
-    pub fn apply(&mut self, event: &Event) -> Result<(), AllocError>
-        requires may_happen { may_happen self.old event.now ≡ true }
-        ensures applied { OnOk result (self.new ≡ after self.old event.now) }
-        ensures unchanged { OnErr result (self.new ≡ self.old) }
-        ensures memory { OnErr result (is_admission event.now ≡ true) }
-    {
-        match event {
-            Event::Admitted { serial, peer } => {
-                let peer = peer.copy()?;
-                self.admit(*serial, peer)?;
-            }
-            Event::Opened { serial, .. } => self.set_stage(*serial, Stage::Opened),
-            Event::Decided { serial, decision } => {
-                self.set_stage(*serial, Stage::Decided(decision.verdict));
-            }
-            Event::Started { serial } => self.set_stage(*serial, Stage::Started),
-            Event::StartFailed { serial, .. }
-            | Event::Ended { serial, .. }
-            | Event::Dropped { serial, .. } => self.remove(*serial),
-            Event::Retired { serial } => self.set_stage(*serial, Stage::Retired),
-            Event::Stepped { phase } => self.set_phase(phase_after(*phase)),
-            Event::StepFailed { .. } => self.set_phase(None),
-            Event::Stop => self.stop(),
-        }
-        Ok(())
-    }
-
-    fn admit(&mut self, serial: u64, peer: Peer) -> Result<(), AllocError>
+    pub(crate) fn admit(&mut self, serial: u64, peer: Peer) -> Result<(), AllocError>
         requires may_admit { may_admit self.old serial peer ≡ true }
         ensures applied { OnOk result (self.new ≡ after self.old (Event.Admitted serial peer)) }
         ensures unchanged { OnErr result (self.new ≡ self.old) }
@@ -209,13 +155,13 @@ impl State {
         Ok(())
     }
 
-    fn set_phase(&mut self, phase: Option<Phase>)
+    pub(crate) fn set_phase(&mut self, phase: Option<Phase>)
         ensures { self.new ≡ record self.old { phase = phase } }
     {
         self.phase = phase;
     }
 
-    fn stop(&mut self)
+    pub(crate) fn stop(&mut self)
         ensures { self.new ≡ after self.old Event.Stop }
     {
         self.connections.clear();
@@ -228,26 +174,4 @@ fn is_retired(stage: Stage) -> bool
     ensures { result ≡ is_retired stage }
 {
     matches!(stage, Stage::Retired)
-}
-
-fn may_come(before: Option<Phase>, phase: Phase) -> bool
-    ensures { result ≡ may_come before phase }
-{
-    match (before, phase) {
-        (_, Phase::Fresh) => true,
-        (Some(Phase::Fresh), Phase::Filling) => true,
-        (Some(Phase::Filling), Phase::Filling | Phase::Synced) => true,
-        (Some(Phase::Synced), Phase::Named) => true,
-        (Some(Phase::Named), Phase::Done) => true,
-        _ => false,
-    }
-}
-
-fn phase_after(phase: Phase) -> Option<Phase>
-    ensures { result ≡ phase_after phase }
-{
-    match phase {
-        Phase::Done => None,
-        under_way => Some(under_way),
-    }
 }

@@ -24,8 +24,8 @@ use tcp_connections::HostNames;
 /// The descriptor of standard error, the last of the standard ones.
 const STANDARD_ERROR: i32 = 2;
 
-/// Holds a standard descriptor, where the server was started without it, so that no connection gets it: a line of the log would go to a
-/// client else. Without such a descriptor nothing is held.
+/// Holds a standard descriptor, where the tool was started without it, so that no connection and no pipe to a program gets it: a line of
+/// the log would go there else. Without such a descriptor nothing is held.
 pub fn stand_in<F: Files<File = File>>(files: &F) -> Option<File> {
     let file = File::open(files, "/dev/null").ok()?;
     (file.as_raw_fd() <= STANDARD_ERROR).then_some(file)

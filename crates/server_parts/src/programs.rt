@@ -1,5 +1,5 @@
 //! Programs of the system, each with an input that holds up nothing once the program is over.
-ghost use Rattle.std.specs.Prelude.{◌≡◌, ⊤, IfOk};
+ghost use Rattle.std.specs.Prelude.{◌≡◌, ⊤, IfOk, true};
 
 use crate::sockets::Holder;
 use child_jobs::{Environment, Exit, Job, NoEnds, NotStarted, Program, StartFault, WaitFault};
@@ -120,6 +120,8 @@ impl<'a, R: Processes + Files + Wait + Clock> ProgramStarter<'a, R> {
 
 impl<'a, R: Processes + Files + Wait + Clock> Starter<Holder<'a, R>> for ProgramStarter<'a, R> {
     type Job = ServiceJob<'a, R>;
+
+    ghost may = { λ _ _ _ _. true };
 
     ghost refuses = { λ _ _ _ _ _. ⊤ };
 

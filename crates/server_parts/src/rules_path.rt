@@ -1,7 +1,7 @@
 //! Where the rules file of a server stands.
-ghost use Rattle.std.specs.Prelude.{IfOk};
+ghost use Rattle.std.specs.Prelude.{◌≡◌, IfOk, option_copied};
 ghost use Rattle.dir_disk.specs.OsParts.{os_disk, system_folder};
-ghost use Rattle.server_parts.specs.RulesPaths.{IsFolderOfPath};
+ghost use Rattle.server_parts.specs.RulesPaths.{IsFolderOfPath, path_of, rules_name, rules_path};
 
 use crate::named_rules::has_named_rule;
 use cdb_files::CdbFile;
@@ -9,24 +9,54 @@ use dir_calls::{Dir, Name};
 use dir_disk::{NoWait, OsDir, OsFile, SystemFile};
 use rule_lookup::{DecideFault, Peer, RuleSource, forms};
 use rules_tools::path::{folder_path, split_path};
+use server_words::ServerWords;
 use std::alloc::{AllocError, Global};
 use std::fs::{File, Files};
 
 /// A file of the system's rules.
 pub type RulesOnDisk = OsFile<SystemFile>;
 
-/// Where a rules file stands.
+/// Where the rules file of a server stands. Only its words make one.
 #[derive(Drop)]
 pub struct RulesPath<'a, R> {
-    /// The system's files.
-    pub files: &'a R,
-    /// Its path, as it was given; empty where there is none.
-    pub path: &'a str,
-    /// The name that is the path's last part; without a name there are no rules.
-    pub name: Option<&'a Name>,
+    // the system's files
+    files: &'a R,
+    // empty where there is none
+    path: &'a str,
+    name: Option<&'a Name>,
 }
 
 impl<'a, R: Files<File = File>> RulesPath<'a, R> {
+    /// That of the server with these words. `name` is the path's last part; without a name there are no rules.
+    pub fn by_words(
+        files: &'a R,
+        words: &ServerWords<'a>,
+        name: Option<&'a Name>,
+    ) -> RulesPath<'a, R>
+        ensures path { rules_path result ≡ path_of words.now.rules }
+        ensures name { rules_name result ≡ option_copied name.entry }
+    {
+        let path = match words.rules() {
+            Some(path) => path,
+            None => "",
+        };
+        RulesPath { files, path, name }
+    }
+
+    /// The path as it was given; empty where there is none.
+    pub fn path(&self) -> &str
+        ensures { result.now ≡ rules_path self.now }
+    {
+        self.path
+    }
+
+    /// The name of the file in its folder; without a name there are no rules.
+    pub fn name(&self) -> Option<&'a Name>
+        ensures { option_copied result ≡ rules_name self.now }
+    {
+        self.name
+    }
+
     /// Whether the file that stands there has a rule by name, as far as that can be seen.
     pub fn name_someone(&self, alloc: Global) -> bool {
         // (to open something other than a file may take for ever)
@@ -48,7 +78,7 @@ impl<'a, R: Files<File = File>> RulesPath<'a, R> {
     /// # Errors
     /// There was no memory.
     pub fn folder(&self, alloc: Global) -> Result<OsDir<&'a R>, AllocError>
-        ensures its { IfOk result (λ dir. IsFolderOfPath self.now.path.now (system_folder (os_disk dir))) }
+        ensures its { IfOk result (λ dir. IsFolderOfPath (rules_path self.now) (system_folder (os_disk dir))) }
     {
         OsDir::at(
             alloc,

@@ -6,7 +6,7 @@ use Rattle.server_events.specs.ServerState.{Effect, ServerState, lets_in, opens,
 use Rattle.server_events.specs.Steps.{MovesBy, Step}
 use Rattle.server_events.specs.Worlds.{KeptFile, World}
 use Rattle.server_events.specs.declared.event.Event.{Event}
-use Rattle.server_events.proofs.TableLemmas.{step_is}
+use Rattle.server_events.proofs.Effects.{step_is}
 use Rattle.server_yard.specs.Serving.{IsServers, StepsByItself, over}
 use Rattle.server_yard.specs.Standing.{Leads, Matches, YardState}
 use Rattle.server_events.proofs.WovenSteps.{phase_stays}

@@ -14,9 +14,8 @@ use Rattle.dir_calls.specs.declared.phase.Phase.TheVariants.{Fresh, Filling, Syn
 use Rattle.rules_install.specs.declared.fault.InstallFault.{InstallFault}
 use Rattle.rules_install.specs.declared.fault.InstallFault.TheVariants.{Line, TooLarge, Disk, Over, OutOfMemory}
 use Rattle.rules_install.proofs.StepFits.{filled_has, synced_next}
-use Rattle.server_events.specs.ServerState.{after as after_event}
+use Rattle.server_events.specs.ServerState.{after as after_event, Follows, stepped, failed}
 use Rattle.server_events.specs.Steps.{IsCallTo, IsWhole, Step}
-use Rattle.server_events.specs.Table.{Follows, stepped, failed}
 use Rattle.server_events.specs.Worlds.{RulesName, UnderWay, World}
 use Rattle.server_events.specs.declared.event.Event.TheVariants.{Stepped, StepFailed}
 use Rattle.rules_install.specs.Series.{MakesStep, MayStepFrom}

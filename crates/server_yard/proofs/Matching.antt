@@ -13,7 +13,7 @@ use Rattle.server_events.specs.Steps.{MovesBy, Step}
 use Rattle.server_events.specs.Worlds.{KeptFile, RulesName, World, kept_by, missing_by, peer_of, standing}
 use Rattle.server_events.specs.declared.event.Event.{Event}
 use Rattle.server_events.specs.declared.event.Event.TheVariants.{Opened, Decided}
-use Rattle.server_events.proofs.TableLemmas.{is_step}
+use Rattle.server_events.proofs.Effects.{is_step}
 use Rattle.server_events.proofs.WovenSteps.{phase_stays}
 use Rattle.server_yard.specs.Rolls.{Notes, Roll}
 use Rattle.server_yard.specs.Serving.{is_plain, plain_by, with_roll}

@@ -13,14 +13,13 @@ use Rattle.dir_calls.specs.declared.phase.Phase.{Phase}
 use Rattle.dir_calls.specs.declared.phase.Phase.TheVariants.{Fresh, Filling, Synced, Named, Done}
 use Rattle.server_events.specs.Headline.{Reaches}
 use Rattle.server_events.specs.Processes.{of_installations, is_installations}
-use Rattle.server_events.specs.ServerState.{Effect, lets_in, opens, decides, brings, lets_go, comes_to, fails_at, ends_all, effect}
+use Rattle.server_events.specs.ServerState.{Effect, lets_in, opens, decides, brings, lets_go, comes_to, fails_at, ends_all, effect, Follows, done}
 use Rattle.server_events.specs.Steps.{Advances, Legal, MovesBy, Step, none, more, beside}
-use Rattle.server_events.specs.Table.{Follows, done}
 use Rattle.server_events.specs.Worlds.{Accepted, RulesName, StandsAt, UnderWay, World}
 use Rattle.server_events.specs.declared.event.Event.{Event}
 use Rattle.server_events.specs.declared.event.Event.TheVariants.{Stepped}
 use Rattle.server_events.proofs.StandingTexts.{IsText}
-use Rattle.server_events.proofs.TableLemmas.{may_come_follows, step_is}
+use Rattle.server_events.proofs.Effects.{may_come_follows, step_is}
 use Rattle.server_events.proofs.WholeText.{Agree, good_reached, good_rules}
 use Rattle.server_yard.proofs.Installs.{reached_by}
 use Rattle.server_yard.specs.Installed.{KeepsHistory, installs_of}

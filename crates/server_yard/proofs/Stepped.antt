@@ -17,7 +17,7 @@ use Rattle.server_events.specs.Steps.{Advances, FailsTo, Step}
 use Rattle.server_events.specs.Worlds.{KeptFile, RulesName, UnderWay, World}
 use Rattle.server_events.specs.declared.event.Event.{Event}
 use Rattle.server_events.specs.declared.event.Event.TheVariants.{Stepped, StepFailed}
-use Rattle.server_events.proofs.TableLemmas.{step_is}
+use Rattle.server_events.proofs.Effects.{step_is}
 use Rattle.server_yard.specs.Standing.{HasUnderWay, LeadsSome, Matches, YardState}
 use Rattle.server_yard.specs.Stepping.{kept_then as kept_after, step_event}
 

@@ -13,7 +13,7 @@ use Rattle.server_events.specs.declared.event.Event.TheVariants.{Opened}
 use Rattle.server_events.specs.declared.event.Stage.TheVariants as stage
 use Rattle.server_yard.proofs.OpenedBefore.{opens_at_once}
 use Rattle.server_events.proofs.Openings.{moves_same}
-use Rattle.server_events.proofs.TableLemmas.{step_is}
+use Rattle.server_events.proofs.Effects.{step_is}
 use Rattle.server_events.proofs.WovenSteps.{one_history}
 use Rattle.server_yard.specs.Serving.{IsServers, over}
 use Rattle.server_yard.specs.Standing.{HasUnderWay, LeadsOpened, Matches, YardState, standing_of}

@@ -18,13 +18,12 @@ use Rattle.server_events.specs.declared.event.Event.{Event}
 use Rattle.server_events.specs.declared.event.Stage.{Stage}
 use Rattle.server_events.specs.declared.event.Stage.TheVariants as stage
 use Rattle.server_events.proofs.Allowed.{reached_within}
-use Rattle.server_events.proofs.Effects.{Sound, is_admitted-true, is_opened-true, not_opened, sound}
+use Rattle.server_events.proofs.Effects.{Sound, is_admitted-true, is_opened-true, not_opened, sound, is_step}
 use Rattle.server_events.proofs.InstalledRuns.{legal_then}
 use Rattle.server_events.proofs.LiveLemmas.{Tells, tells as tells_of, tells_after}
 use Rattle.server_events.proofs.Openings.{decided_by_standing, has_its_opening, kept_by-push_found, kept_by-push_own, kept_with, moves_same, waiting_keeps}
 use Rattle.server_events.proofs.Peers.{stage_of-peer_of, stage_of-push_is, stage_of-with_stage_is, stage_of-without_is}
 use Rattle.server_events.proofs.Serials.{Rise}
-use Rattle.server_events.proofs.TableLemmas.{is_step}
 use Rattle.server_events.proofs.WholeText.{reached_whole}
 use Rattle.server_events.proofs.WovenSteps.{one_history}
 use Rattle.server_yard.specs.Runs.{AreByFound, AreInstallations, BeginsRun, FindsWhatStands, Found, InOrderOfFinding, IsByFound, IsHistoryTo, IsPlayedOut, IsRun}

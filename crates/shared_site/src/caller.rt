@@ -1,22 +1,28 @@
 //! The callers of a site, and the count of their events.
-ghost use Rattle.std.specs.Prelude.{◌≡◌, ◌+◌, ◌<◌, ◌≤◌, ℕ};
+ghost use Rattle.std.specs.Prelude.{◌≡◌, ◌+◌, ◌<◌, ◌≤◌, ℕ, None, Option};
 
 use std::marker::Brand;
 use std::sync::ledger::{Ledger, Share};
 
-/// The ledger of a site's events. It also says how many callers there are, and how many events came before them.
+/// The ledger of a site's events. It also says how many callers there are, how many events came before them, and how
+/// many connections they let in.
 pub trait Callers: Ledger {
     /// How many callers there are.
     ghost all: { ℕ };
 
     /// How many events the yard had when the site was made.
     ghost before: { ℕ };
+
+    /// How many connections they let in at most, if there is such a number.
+    ghost admissions: { Option ℕ };
 }
 
 impl Callers for Brand {
     ghost all = { 0 };
 
     ghost before = { 0 };
+
+    ghost admissions = { None };
 }
 
 /// A caller: a number from 1, and a share in the count of a site's events. Each event adds one to its maker's share.

@@ -5,19 +5,16 @@
 //! error that changes nothing but the speaker. If the yard is a server's and had no event before, its events are a run
 //! (`Guarded`, `Site::close`): what turns tell, one after another. Only laws and tests make a `Receipt` of the evidence
 //! that a turn answers: see `whole_yard`, which audits receipts. A `Refusal`, and `AllRetired`, are made only of a yard
-//! that is so. Nothing is proved about the answer of `live`, or about `None` of `retired`. That threads get the lock and
-//! go on is tested (`test_sites`).
+//! that is so. Nothing is proved about `None` of `Site::retired`. That threads get the lock and go on is tested
+//! (`test_sites`).
 #![tactic(auto)]
 
 pub mod caller;
 pub mod ground;
 pub mod receipt;
 pub mod site;
-pub mod turn;
-pub mod turns;
 
 pub use caller::{BackCallers, Caller, Callers, NewCallers};
 pub use ground::{CallerOf, Ground, YardOf};
 pub use receipt::{Made, OutOfTurn, Receipt, Refusal};
-pub use site::{AllRetired, Site};
-pub use turn::Turn;
+pub use site::{AllRetired, Site, Turn};

@@ -1,15 +1,38 @@
-//! The site: a yard under one lock, for many threads.
-ghost use Rattle.std.specs.Prelude.{◌≡◌, ◌+◌, ◌≤◌, ◌↔◌, true, List, IsOk, IfOk, IfErr};
+//! The site: a yard under one lock, for many threads. A caller hands it a turn: a value that asks for one event.
+//!
+//! There is a type of turns for each event of a connection. A caller can't know whether its event is allowed now. So a
+//! turn notes its caller as the speaker, and tests whether the table of events allows the event. If it does, the turn
+//! makes the yard's call of its name, and answers which event that was. Otherwise nothing changed but the speaker. No
+//! turn waits or takes memory of its own.
+//!
+//! `in_turn` says when a turn's event is made, and `makes` all that the turn then does, or leaves as it was. Such an
+//! event is a step over whatever directory other processes left (`server_yard::laws::noted_leads`).
+ghost use Rattle.child_jobs.specs.Runs.{place_of};
+ghost use Rattle.server_events.specs.ServerState.{is_admitted, is_allowed, is_started, stage_of};
+ghost use Rattle.server_events.specs.Worlds.{missing_by};
 ghost use Rattle.server_events.specs.declared.event.Event.{Event};
-ghost use Rattle.server_yard.specs.Yards.{HasRun, IsRunOf, yard_books, yard_server};
+ghost use Rattle.server_events.specs.declared.event.Stage.{Stage as StageOf};
+ghost use Rattle.server_yard.specs.Leavings.{leaving_event, may_leave};
+ghost use Rattle.server_yard.specs.Passes.{IsDecidedBy, finding_file, pass_missing, pass_serial};
+ghost use Rattle.server_yard.specs.Rolls.{IsQuiet};
+ghost use Rattle.server_yard.specs.Seating.{GivesSeat, IsAddressFull, IsSpent, KeepsSerials};
+ghost use Rattle.server_yard.specs.Yards.{HasRun, IsRunOf, IsSameBeside, yard_books, yard_roll, yard_rules, yard_seat, yard_server};
+ghost use Rattle.server_yard.specs.declared.register.AdmitFault.TheVariants.{Full, FullForAddress, Spent};
 ghost use Rattle.shared_site.specs.Callers.{CountsForIts, back_lacking, back_share, new_count};
-ghost use Rattle.shared_site.specs.Turns.{told_then};
+ghost use Rattle.shared_site.specs.Receipts.{AdmitsOrNot, CountsAtMostOne, MakesOrNot, receipt_at, receipt_of, refused_as, shown_event};
+ghost use Rattle.shared_site.specs.Turns.{Answers, IsAt, IsLastOf, IsPassedOver, Makes, MayBeDecided, NotesAs, NotesBy, OpensBy, spoken_by, told_if_admitted, told_if_made, told_if_opened, told_then};
+ghost use Rattle.std.specs.Prelude.{◌≡◌, ◌+◌, ◌≤◌, ◌↔◌, ⊤, Bool, Err, IfErr, IfOk, IfSome, IsOk, IsTrue, List, None, OnErr, OnOk, Option, Some, ℕ, false, is_ok, is_some, length, true};
+ghost use Rattle.server_events.specs.declared.event.Event.TheVariants as event;
 
 use crate::caller::{BackCallers, NewCallers};
 use crate::ground::{CallerOf, Ground, YardOf};
-use crate::turn::Turn;
-use server_yard::Assumptions;
+use crate::receipt::{EventSnapshot, Made, OutOfTurn, Refusal};
+use child_jobs::{Job, Place, Running};
+use rule_lookup::{Decision, Peer, Verdict};
+use server_events::{Event, Stage};
+use server_yard::{Assumptions, Finding, Leaving, Pass};
 use std::marker::PhantomData;
+use std::snapshot::Snapshot;
 use std::sync::ledger::{Blank, Book};
 use std::sync::{Mutex, Wait};
 
@@ -92,11 +115,6 @@ impl<G: Ground> Site<G> {
         self.guarded.lock(rt).turn(caller, turn)
     }
 
-    /// How many connections are alive, retired ones too.
-    pub fn live<R: Wait>(&self, rt: &R) -> u64 {
-        self.guarded.lock(rt).yard.live()
-    }
-
     /// Evidence that all places are retired, if they are.
     pub fn retired<R: Wait>(&self, rt: &R) -> Option<AllRetired<G::Places>> {
         let guarded = self.guarded.lock(rt);
@@ -133,5 +151,367 @@ impl<G: Ground> Site<G> {
         } = callers;
         events.audit(&mut all);
         Ok(yard)
+    }
+}
+
+/// A turn: a value that asks a yard for one event, and makes one or none.
+pub trait Turn<G: Ground> {
+    /// What it answers.
+    type Answer;
+
+    /// What a yard has to be like before the turn may run.
+    ghost may: { Self → Type 0 };
+
+    /// After this many events, run for the caller with this number, the turn may give this answer, and this many events
+    /// have happened then.
+    ghost answers: { Self → (who before : ℕ) → Self.Answer → (after : ℕ) → Type 0 };
+
+    /// What it tells in a server, by its answer.
+    ghost tells: { Self → Self.Answer → Option Event };
+
+    /// Runs the turn on a yard, for the caller with this number.
+    fn run(self, yard: &mut YardOf<G>, caller: u64) -> Self::Answer
+        requires may { may self }
+        ensures answers { answers self caller
+            (yard_books yard.old).count result (yard_books yard.new).count }
+        ensures counts { CountsAtMostOne (yard_books yard.old).count (yard_books yard.new).count }
+        ensures notes { G.is_servers ≡ true → NotesAs caller (tells self result)
+            (yard_roll yard.old) (yard_roll yard.new) };
+}
+
+/// Evidence that a caller made a yard's last event, as which this event was just noted. There is no other way to
+/// evidence.
+pub fn made<G: Ground>(yard: &YardOf<G>, caller: u64, event: EventSnapshot) -> Made
+    requires last { IsLastOf caller (shown_event event) (yard_roll yard.now) }
+    ensures its { receipt_of result ≡ receipt_at (yard_books yard.now).count caller (shown_event event) }
+{
+    Made {
+        caller,
+        at: yard.journal().events(),
+        shown: event,
+    }
+}
+
+/// Lets a connection in, as `Yard::admit` does.
+///
+/// # Errors
+/// Those of `Yard::admit`, as evidence.
+#[derive(Drop)]
+pub struct Admit<'a> {
+    /// The client.
+    pub peer: &'a Peer,
+}
+
+impl<G: Ground> Turn<G> for Admit<'_> {
+    type Answer = Result<(u64, Place<G::Places>, Made), Refusal>;
+
+    ghost may = { λ _. ⊤ };
+
+    ghost answers = { λ turn. AdmitsOrNot turn.peer.now };
+
+    ghost tells = { λ turn. told_if_admitted turn.peer.now };
+
+    fn run(
+        self,
+        yard: &mut YardOf<G>,
+        caller: u64,
+    ) -> Result<(u64, Place<G::Places>, Made), Refusal>
+        ensures answers { Answers (AdmitsOrNot self.entry.peer.now) caller result yard.old yard.new }
+        ensures counts { CountsAtMostOne (yard_books yard.old).count (yard_books yard.new).count }
+        ensures notes { G.is_servers ≡ true → NotesAs caller
+            (told_if_admitted self.entry.peer.now result)
+            (yard_roll yard.old) (yard_roll yard.new) }
+        ensures full { (refused_as result ≡ Some Full)
+            ↔ (length (yard_server yard.old).connections ≡ (yard_server yard.old).limit) }
+        ensures spent { (refused_as result ≡ Some Spent) ↔ IsSpent (yard_server yard.old) }
+        ensures full_for_address { (refused_as result ≡ Some FullForAddress)
+            ↔ IsAddressFull self.entry.peer.now.ip (yard_server yard.old) }
+        ensures noted { IfOk result (λ r. NotesBy
+            caller (event.Admitted r.0 self.entry.peer.now) (yard_roll yard.old) (yard_roll yard.new)) }
+        ensures seat { IfOk result (λ r. GivesSeat r.1 r.0 (yard_seat yard.old) (yard_seat yard.new)) }
+        ensures same { IsSameBeside yard.old yard.new }
+        ensures refused { OnErr result (IsQuiet (spoken_by caller (yard_roll yard.old)) (yard_roll yard.new)) }
+        ensures same_seats { OnErr result
+            (KeepsSerials (yard_server yard.old) (yard_seat yard.old) (yard_seat yard.new)) }
+    {
+        let Admit { peer } = self;
+        yard.speaker(caller);
+        match yard.admit(peer) {
+            Ok((serial, place)) => {
+                let event = EventSnapshot::Admitted(Snapshot::of(&serial), Snapshot::of(peer));
+                Ok((serial, place, made::<G>(yard, caller, event)))
+            }
+            Err(fault) => Err(Refusal::of::<G>(yard, peer, fault)),
+        }
+    }
+}
+
+/// Notes that a connection opened the rules by a handle of its own, as `Yard::opened` does. It has to be let in, and
+/// must not have opened them before. Otherwise nothing changes but the speaker, and what it found is dropped.
+#[derive(Drop)]
+pub struct Opened<G: Ground> {
+    /// The connection's serial.
+    pub serial: u64,
+    /// What the connection found.
+    pub finding: Finding<G::Places, G::File>,
+}
+
+impl<G: Ground> Turn<G> for Opened<G> {
+    type Answer = Option<(Pass<G::Places, G::File>, Made)>;
+
+    ghost may = { λ _. ⊤ };
+
+    ghost answers = { λ turn. OpensBy turn.serial (finding_file turn.finding) };
+
+    ghost tells = { λ turn. told_if_opened turn.serial (is_some (finding_file turn.finding)) };
+
+    fn run(self, yard: &mut YardOf<G>, caller: u64) -> Option<(Pass<G::Places, G::File>, Made)>
+        ensures answers { Answers (OpensBy self.serial (finding_file self.finding)) caller result yard.old yard.new }
+        ensures counts { CountsAtMostOne (yard_books yard.old).count (yard_books yard.new).count }
+        ensures notes { G.is_servers ≡ true → NotesAs caller
+            (told_if_opened self.serial (is_some (finding_file self.finding)) result)
+            (yard_roll yard.old) (yard_roll yard.new) }
+        ensures in_turn { is_some result ≡ is_admitted (stage_of self.serial (yard_server yard.old).connections) }
+        ensures missing { IfSome result (λ r. pass_missing r.0 ≡ missing_by (yard_rules yard.old)) }
+        ensures makes { Makes caller (event.Opened self.serial (is_some (finding_file self.finding)))
+            (is_some result) yard.old yard.new }
+    {
+        let Opened { serial, finding } = self;
+        yard.speaker(caller);
+        if !is_admitted(yard.stage(serial)) {
+            return None;
+        }
+        let pass = yard.opened(serial, finding);
+        let there = pass.source().is_some();
+        let event = EventSnapshot::of(Event::Opened { serial, there });
+        Some((pass, made::<G>(yard, caller, event)))
+    }
+}
+
+/// Notes that a connection was decided, as `Yard::decided` does. It has to be in the stage `Opened`, this has to be its
+/// peer, and the pass has to have what the yard decides without a file.
+///
+/// # Errors
+/// The event is out of turn. Nothing changed but the speaker.
+#[derive(Drop)]
+pub struct Decided<'a, G: Ground> {
+    /// What the connection opened.
+    pub pass: Pass<G::Places, G::File>,
+    /// The connection's client.
+    pub peer: &'a Peer,
+    /// The decision by what the connection opened.
+    pub decision: Decision,
+}
+
+impl<G: Ground> Turn<G> for Decided<'_, G> {
+    type Answer = Result<Made, OutOfTurn>;
+
+    ghost may = { λ turn. IsDecidedBy G.File.honest G.File.sound G.File.bytes turn.pass turn.peer.now turn.decision };
+
+    ghost answers = { λ turn. MakesOrNot (event.Decided (pass_serial turn.pass) turn.decision) };
+
+    ghost tells = { λ turn. told_if_made (event.Decided (pass_serial turn.pass) turn.decision) };
+
+    fn run(self, yard: &mut YardOf<G>, caller: u64) -> Result<Made, OutOfTurn>
+        requires decides { IsDecidedBy G.File.honest G.File.sound G.File.bytes self.pass self.peer.now self.decision }
+        ensures answers { Answers (MakesOrNot (event.Decided (pass_serial self.entry.pass) self.entry.decision))
+            caller result yard.old yard.new }
+        ensures counts { CountsAtMostOne (yard_books yard.old).count (yard_books yard.new).count }
+        ensures notes { G.is_servers ≡ true → NotesAs caller
+            (told_if_made (event.Decided (pass_serial self.entry.pass) self.entry.decision) result)
+            (yard_roll yard.old) (yard_roll yard.new) }
+        ensures in_turn { IsOk result ↔ MayBeDecided yard.old self.entry.pass self.entry.peer.now }
+        ensures makes { Makes caller (event.Decided (pass_serial self.entry.pass) self.entry.decision)
+            (is_ok result) yard.old yard.new }
+    {
+        let (pass, peer, decision) = (self.pass, self.peer, self.decision);
+        yard.speaker(caller);
+        let serial = pass.serial();
+        let event = EventSnapshot::Decided(Snapshot::of(&serial), Snapshot::of(&decision));
+        if !may_be_decided::<G>(yard, &pass, peer) {
+            return Err(OutOfTurn { asked: event });
+        }
+        yard.decided(pass, peer, decision);
+        Ok(made::<G>(yard, caller, event))
+    }
+}
+
+/// Notes that the child of the connection with this serial runs, as `Yard::started` does. The connection has to have
+/// the child's place, and to be allowed.
+///
+/// # Errors
+/// The event is out of turn. Nothing changed but the speaker.
+#[derive(Drop)]
+pub struct Started<'a, G: Ground, C: Job> {
+    /// The connection's serial.
+    pub serial: u64,
+    /// The child.
+    pub running: &'a Running<G::Places, C>,
+}
+
+impl<G: Ground, C: Job> Turn<G> for Started<'_, G, C> {
+    type Answer = Result<Made, OutOfTurn>;
+
+    ghost may = { λ _. ⊤ };
+
+    ghost answers = { λ turn. MakesOrNot (event.Started turn.serial) };
+
+    ghost tells = { λ turn. told_if_made (event.Started turn.serial) };
+
+    fn run(self, yard: &mut YardOf<G>, caller: u64) -> Result<Made, OutOfTurn>
+        ensures answers { Answers (MakesOrNot (event.Started self.entry.serial)) caller result yard.old yard.new }
+        ensures counts { CountsAtMostOne (yard_books yard.old).count (yard_books yard.new).count }
+        ensures notes { G.is_servers ≡ true → NotesAs caller
+            (told_if_made (event.Started self.entry.serial) result)
+            (yard_roll yard.old) (yard_roll yard.new) }
+        ensures in_turn { IsOk result ↔ IsAt is_allowed self.entry.serial yard.old (place_of self.entry.running.now) }
+        ensures makes { Makes caller (event.Started self.entry.serial) (is_ok result) yard.old yard.new }
+    {
+        let Started { serial, running } = self;
+        let event = EventSnapshot::of(Event::Started { serial });
+        if !is_allowed(speak_at::<G>(yard, caller, running.place(), serial)) {
+            return Err(OutOfTurn { asked: event });
+        }
+        yard.started(running);
+        Ok(made::<G>(yard, caller, event))
+    }
+}
+
+/// Notes that the connection with this serial has gone so, as `Yard::left` does. The connection has to have this place,
+/// and to be in a stage from which it may go so.
+///
+/// # Errors
+/// The event is out of turn. The place stays counted for good, and nothing changed but the speaker.
+pub struct Left<G: Ground> {
+    /// The connection's serial.
+    pub serial: u64,
+    /// Its place.
+    pub place: Place<G::Places>,
+    /// How it goes.
+    pub leaving: Leaving,
+}
+
+impl<G: Ground> Turn<G> for Left<G> {
+    type Answer = Result<Made, OutOfTurn>;
+
+    ghost may = { λ _. ⊤ };
+
+    ghost answers = { λ turn. MakesOrNot (leaving_event turn.leaving turn.serial) };
+
+    ghost tells = { λ turn. told_if_made (leaving_event turn.leaving turn.serial) };
+
+    fn run(self, yard: &mut YardOf<G>, caller: u64) -> Result<Made, OutOfTurn>
+        ensures answers { Answers (MakesOrNot (leaving_event self.leaving self.serial))
+            caller result yard.old yard.new }
+        ensures counts { CountsAtMostOne (yard_books yard.old).count (yard_books yard.new).count }
+        ensures notes { G.is_servers ≡ true → NotesAs caller
+            (told_if_made (leaving_event self.leaving self.serial) result)
+            (yard_roll yard.old) (yard_roll yard.new) }
+        ensures in_turn { IsOk result ↔ IsAt (may_leave self.leaving) self.serial yard.old self.place }
+        ensures makes { Makes caller (leaving_event self.leaving self.serial) (is_ok result) yard.old yard.new }
+        ensures gone { OnOk result (stage_of self.serial (yard_server yard.new).connections ≡ None) }
+    {
+        let Left {
+            serial,
+            place,
+            leaving,
+        } = self;
+        let event = EventSnapshot::of(leaving.event(serial));
+        if !leaving.may_be(speak_at::<G>(yard, caller, &place, serial)) {
+            place.strand();
+            return Err(OutOfTurn { asked: event });
+        }
+        yard.left(place, leaving);
+        Ok(made::<G>(yard, caller, event))
+    }
+}
+
+/// Notes that the child of the connection with this serial could not be waited for, as `Yard::retired` does. The
+/// connection has to have the child's place, and its child has to be started. In turn or not, the child is abandoned,
+/// and its place stays counted for good.
+///
+/// # Errors
+/// The event is out of turn. Nothing changed but the speaker.
+pub struct Retired<G: Ground, C: Job> {
+    /// The connection's serial.
+    pub serial: u64,
+    /// The child.
+    pub running: Running<G::Places, C>,
+}
+
+impl<G: Ground, C: Job> Turn<G> for Retired<G, C> {
+    type Answer = Result<Made, OutOfTurn>;
+
+    ghost may = { λ _. ⊤ };
+
+    ghost answers = { λ turn. MakesOrNot (event.Retired turn.serial) };
+
+    ghost tells = { λ turn. told_if_made (event.Retired turn.serial) };
+
+    fn run(self, yard: &mut YardOf<G>, caller: u64) -> Result<Made, OutOfTurn>
+        ensures answers { Answers (MakesOrNot (event.Retired self.serial)) caller result yard.old yard.new }
+        ensures counts { CountsAtMostOne (yard_books yard.old).count (yard_books yard.new).count }
+        ensures notes { G.is_servers ≡ true → NotesAs caller
+            (told_if_made (event.Retired self.serial) result)
+            (yard_roll yard.old) (yard_roll yard.new) }
+        ensures in_turn { IsOk result ↔ IsAt is_started self.serial yard.old (place_of self.running) }
+        ensures makes { Makes caller (event.Retired self.serial) (is_ok result) yard.old yard.new }
+    {
+        let Retired { serial, running } = self;
+        let event = EventSnapshot::of(Event::Retired { serial });
+        if !is_started(speak_at::<G>(yard, caller, running.place(), serial)) {
+            running.strand();
+            return Err(OutOfTurn { asked: event });
+        }
+        yard.retired(running);
+        Ok(made::<G>(yard, caller, event))
+    }
+}
+
+// The stages in which a connection may open the rules, in which its child may be started, and in which that runs.
+fn is_admitted(stage: Option<Stage>) -> bool
+    ensures { result ≡ is_admitted stage }
+{
+    matches!(stage, Some(Stage::Admitted))
+}
+
+fn is_allowed(stage: Option<Stage>) -> bool
+    ensures { result ≡ is_allowed stage }
+{
+    matches!(stage, Some(Stage::Decided(Verdict::Allow)))
+}
+
+fn is_started(stage: Option<Stage>) -> bool
+    ensures { result ≡ is_started stage }
+{
+    matches!(stage, Some(Stage::Started))
+}
+
+// Whether the connection of a pass may be decided now.
+fn may_be_decided<G: Ground>(yard: &YardOf<G>, pass: &Pass<G::Places, G::File>, peer: &Peer) -> bool
+    ensures { IsTrue result ↔ MayBeDecided yard.now pass.now peer.now }
+{
+    yard.stage(pass.serial()) == Some(Stage::Opened)
+        && pass.missing() == yard.missing()
+        && yard.is_peer(pass.serial(), peer)
+}
+
+// Makes a caller the speaker, and answers the stage of the connection at a place, if that has this serial.
+fn speak_at<G: Ground>(
+    yard: &mut YardOf<G>,
+    caller: u64,
+    place: &Place<G::Places>,
+    serial: u64,
+) -> Option<Stage>
+    ensures spoken { IsPassedOver caller yard.old yard.new }
+    ensures passes { (passes : Option StageOf → Bool) → passes None ≡ false
+        → (passes result ≡ true) ↔ IsAt passes serial yard.old place.now }
+    ensures stays { (passes : Option StageOf → Bool) → passes None ≡ false
+        → passes result ≡ true → IsAt passes serial yard.new place.now }
+{
+    yard.speaker(caller);
+    match yard.stage_of(place) {
+        Some((own, stage)) if own == serial => Some(stage),
+        _ => None,
     }
 }

@@ -1,5 +1,5 @@
 //! `fixcrio` and `recordio`: a program between two pumps.
-ghost use Rattle.std.specs.Prelude.{◌≡◌, ◌≢◌, ◌⊎◌, ◌+◌, ◌-◌, ◌^◌, ◌<◌, false, None, Err, IfErr, IfOk, IfSome, Some};
+ghost use Rattle.std.specs.Prelude.{◌≡◌, ◌≢◌, ◌⊎◌, ◌+◌, ◌-◌, ◌^◌, ◌<◌, false, None, Err, IfErr, IfOk, IfSome, Some, IsTrue};
 ghost use Rattle.std.specs.Thread.{IsSend};
 ghost use Rattle.byte_streams.specs.Chains.{has_failed};
 ghost use Rattle.byte_streams.specs.Pumps.{Pumped, ends_of};
@@ -150,7 +150,8 @@ where
     F: FnOnce(&B::Input) -> Option<Watch>,
     S: LineWrapper + Send + Drop,
     T: Tap + Send + Drop,
-    requires { F.IsAlwaysCallable watch }
+    requires watch { F.IsAlwaysCallable watch }
+    requires may { IsTrue (B.Launcher.may launcher run.0.now run.1.now) }
     ensures ended { IfOk result (λ end. (job : B.Job)
         × IsRunOf B.Job.program B.Job.environment run.entry.0.now run.entry.1.now job × B.Job.ended job end.status) }
     ensures input { IfOk result (λ end. Fed F.FnOnce B.Reader.remaining B.Input.contents S.rest
@@ -178,6 +179,7 @@ fn start_job<L: Launcher>(
     program: &Program,
     environment: &Environment,
 ) -> Result<L::Job, BetweenFailure>
+    requires may { IsTrue (L.may launcher program.now environment.now) }
     ensures program { IfOk result (λ job. L.Job.program job ≡ program.now) }
     ensures environment { IfOk result (λ job. L.Job.environment job ≡ environment.now) }
     ensures refused { IfErr result (IsNotStarted L.refuses launcher program.now environment.now) }

@@ -1,5 +1,5 @@
 //! `fixcrio`: a program both of whose streams get carriage returns.
-ghost use Rattle.std.specs.Prelude.{◌≡◌, ◌⊎◌, IfErr, IfOk};
+ghost use Rattle.std.specs.Prelude.{◌≡◌, ◌⊎◌, IfErr, IfOk, IsTrue};
 ghost use Rattle.byte_streams.specs.declared.tap.NoTap.{NoTap};
 ghost use Rattle.byte_streams.specs.declared.wrappers.FixCr.{FixCr};
 ghost use Rattle.stream_tools.specs.Lanes.{Drained, Fed, IsFixing, IsNotStarted, IsRunOf};
@@ -34,7 +34,8 @@ where
     B::Input: Send,
     B::Launcher: Drop,
     F: FnOnce(&B::Input) -> Option<Watch> + Drop,
-    requires { F.IsAlwaysCallable watch }
+    requires watch { F.IsAlwaysCallable watch }
+    requires may { IsTrue (B.Launcher.may launcher run.0.now run.1.now) }
     ensures ended { IfOk result (λ end. (job : B.Job)
         × IsRunOf B.Job.program B.Job.environment run.entry.0.now run.entry.1.now job × B.Job.ended job end.status) }
     ensures input { IfOk result (λ end. (lane : Lane B.Reader FixCr NoTap) × IsFixing streams.0 lane

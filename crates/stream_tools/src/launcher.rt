@@ -1,5 +1,5 @@
 //! Programs of the system, as jobs.
-ghost use Rattle.std.specs.Prelude.{◌≡◌, false, is_some, ⊤, IfErr, IfOk};
+ghost use Rattle.std.specs.Prelude.{◌≡◌, false, is_some, ⊤, IfErr, IfOk, true};
 
 use crate::process::{ChildProcess, not_started, start_process};
 use crate::search::SearchPath;
@@ -86,6 +86,8 @@ pub struct OsJob {
 
 impl<'a, P: Processes + Files> Launcher for OsLauncher<'a, P> {
     type Job = OsJob;
+
+    ghost may = { λ _ _ _. true };
 
     ghost refuses = { λ _ _ _ _. ⊤ };
 

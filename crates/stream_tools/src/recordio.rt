@@ -1,5 +1,5 @@
 //! `recordio`: a program both of whose streams are recorded.
-ghost use Rattle.std.specs.Prelude.{◌≡◌, ◌⊎◌, IfErr, IfOk, codes};
+ghost use Rattle.std.specs.Prelude.{◌≡◌, ◌⊎◌, IfErr, IfOk, codes, IsTrue};
 ghost use Rattle.byte_streams.specs.declared.tap.Recorder.{Recorder};
 ghost use Rattle.rule_lookup.specs.Peers.{given};
 ghost use Rattle.child_jobs.specs.Variables.{value_of};
@@ -39,7 +39,8 @@ where
     B::Input: Send,
     W: Write + Send + Drop,
     F: FnOnce(&B::Input) -> Option<Watch>,
-    requires { F.IsAlwaysCallable watch }
+    requires watch { F.IsAlwaysCallable watch }
+    requires may { IsTrue (B.Launcher.may launcher run.0.now run.1.now) }
     ensures ended { IfOk result (λ end. (job : B.Job)
         × IsRunOf B.Job.program B.Job.environment run.entry.0.now run.entry.1.now job × B.Job.ended job end.status) }
     ensures input { IfOk result (λ end. (lane : Lane B.Reader FixCr (Recorder W))

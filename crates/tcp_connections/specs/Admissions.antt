@@ -1,5 +1,6 @@
 -- How many connections a server let in, and when it ends by faults of accepting.
-use Rattle.std.specs.Prelude.{◌≡◌, ◌+◌, ◌-◌, ◌≤◌, ◌&&◌, ◌⊎◌, ℕ, Bool, true, false, nat_le, nat_lt, Option, None, Some, ⊤}
+use Rattle.std.specs.Option.{ForSome}
+use Rattle.std.specs.Prelude.{◌≡◌, ◌≢◌, ◌+◌, ◌≤◌, ◌&&◌, ◌⊎◌, ℕ, Bool, true, false, nat_le, nat_lt, Option, None, Some, ⊤}
 use Rattle.tcp_connections.specs.declared.admission.AdmitOutcome.{AdmitOutcome}
 use Rattle.tcp_connections.specs.declared.admission.AdmitOutcome.TheVariants.{In, Refused, Spent}
 use Rattle.tcp_connections.specs.declared.admission.ServeEnd.{ServeEnd}
@@ -13,15 +14,23 @@ LetsIn (In work) old new = new ≡ old + 1
 LetsIn (Refused why) old new = new ≡ old
 LetsIn Spent old new = ⊤
 
+-- what is said of a connection that was let in
+abbrev pub IfIn : {T E : Type 0} → AdmitOutcome T E → (T → Type 0) → Type 0
+IfIn (In work) P = P work
+IfIn outcome P = ⊤
+
 -- what is said once no number is left
 abbrev pub OnSpent : {T E : Type 0} → AdmitOutcome T E → Type 0 → Type 0
 OnSpent Spent P = P
 OnSpent outcome P = ⊤
 
 -- a server that ended by its count let in exactly that many
-abbrev pub IsServed : ServeEnd → (count : Option ℕ) → (old new : ℕ) → Type 0
-IsServed end.Count count old new = (old ≤ new) × (count ≡ Some (new - old))
-IsServed other count old new = ⊤
+abbrev pub EndsAtCount : ServeEnd → (count : Option ℕ) → (let_in : ℕ) → Type 0
+EndsAtCount by count let_in = by ≡ end.Count → count ≡ Some let_in
+
+-- a server let in no more than its count, unless no number was left
+abbrev pub LetsInAtMost : ServeEnd → (count : Option ℕ) → (let_in : ℕ) → Type 0
+LetsInAtMost by count let_in = by ≢ end.Spent → ForSome count (λ most. let_in ≤ most)
 
 -- where memory is limited, at least one connection may begin
 abbrev pub may_begin : Option Memory → Bool

@@ -1,6 +1,9 @@
 -- Which names the ends of a connection have.
-use Rattle.std.specs.Prelude.{ℕ, Bool, not, ◌&&◌, List, Option, Some, None, option_map, string_bytes, if◌then◌else◌}
+use Rattle.std.specs.Prelude.{ℕ, Bool, not, ◌&&◌, List, Option, Some, None, map, option_map, string_bytes, if◌then◌else◌}
 use Rattle.child_jobs.specs.Hosts.{Hosts, name_of, confirms}
+use Rattle.child_jobs.specs.Ends.{LocalEnd}
+use Rattle.rule_lookup.specs.Peers.{Client}
+use Rattle.std.specs.Char.{to_ascii_lowercase}
 use Rattle.tcp_connections.specs.declared.names.HostNames.{HostNames}
 
 -- the name that a table has for an address, if there is a table
@@ -30,3 +33,12 @@ or_else None other = other
 -- the name of the server's end at an address: the given one, or else the table's
 abbrev pub local_name : HostNames → (ip : List ℕ) → Option (List ℕ)
 local_name names ip = or_else (option_map string_bytes names.local) (name_in names.hosts ip)
+
+-- the client at an address and port, with its name if it has one, in small letters
+abbrev pub client_at : HostNames → (ip : List ℕ) → (port : ℕ) → Client
+client_at names ip port =
+    record { ip = ip; port = port; host = option_map (map to_ascii_lowercase) (client_name names ip); info = None }
+
+-- the server's end at an address and port, with its name if it has one
+abbrev pub local_at : HostNames → (ip : List ℕ) → (port : ℕ) → LocalEnd
+local_at names ip port = record { ip = ip; port = port; host = local_name names ip }

@@ -1,6 +1,6 @@
 //! Where connections are let in, and what serves them.
-ghost use Rattle.std.specs.Prelude.{◌≡◌, ℕ, Bool, false, IsTrue};
-ghost use Rattle.tcp_connections.specs.Admissions.{LetsIn, OnSpent};
+ghost use Rattle.std.specs.Prelude.{◌≡◌, ℕ, Bool, Option, false, IsTrue};
+ghost use Rattle.tcp_connections.specs.Admissions.{IfIn, LetsIn, OnSpent};
 
 /// How a server ended.
 #[derive(Clone, Copy)]
@@ -38,6 +38,12 @@ pub trait Admission {
     /// Why one is refused.
     type Refusal: Send + Drop;
 
+    /// Whether what was let in is the connection that came.
+    ghost is_its: { Self.Came → Self.Work → Type 0 };
+
+    /// How many are let in at most, if there is such a number.
+    ghost count: { Option ℕ };
+
     /// How many were let in.
     ghost let_in: { Self → ℕ };
 
@@ -49,6 +55,7 @@ pub trait Admission {
 
     /// Lets a connection in. A refused one is closed.
     fn admit(&mut self, came: Self::Came) -> AdmitOutcome<Self::Work, Self::Refusal>
+        ensures its { IfIn result (is_its came) }
         ensures came { LetsIn result (let_in self.old) (let_in self.new) }
         ensures spent { OnSpent result (IsTrue (is_spent self.new)) };
 

@@ -1,6 +1,6 @@
 //! The connections that arrive: where workers wait for them, and the door through which they are let in.
-ghost use Rattle.std.specs.Prelude.{◌≡◌, IsTrue};
-ghost use Rattle.tcp_connections.specs.Admissions.{IsServed};
+ghost use Rattle.std.specs.Prelude.{◌≡◌, IfSome, IsTrue};
+ghost use Rattle.tcp_connections.specs.Admissions.{EndsAtCount, LetsInAtMost};
 ghost use Rattle.tcp_connections.specs.declared.admission.ServeEnd.TheVariants.{AcceptFaults, NoPlaces, Spent};
 
 use crate::accepting::{AcceptError, Accepted, Acceptor};
@@ -77,7 +77,9 @@ impl<A: Acceptor + Drop, Q: Admission> Arrivals<A, Q> {
         means: &Means,
         _permit: &Permit,
         came: Q::Came,
-    ) -> Option<Q::Work> {
+    ) -> Option<Q::Work>
+        ensures its { IfSome result (Q.is_its came) }
+    {
         let mut door = self.door.lock(rt);
         if door.is_over() {
             drop(door);
@@ -129,14 +131,15 @@ impl<A: Acceptor + Drop, Q: Admission> Arrivals<A, Q> {
     }
 
     /// How the server ended, as `Door::into_end` tells it. The acceptor is dropped, if it is there still.
-    pub fn into_end(self, count: Option<u32>) -> (ServeEnd, Q, Errors)
-        ensures served { IsServed result.0 count 0 (Q.let_in result.1) }
+    pub fn into_end(self) -> (ServeEnd, Q, Errors)
+        ensures count { EndsAtCount result.0 Q.count (Q.let_in result.1) }
+        ensures most { LetsInAtMost result.0 Q.count (Q.let_in result.1) }
         ensures faults { result.0 ≡ AcceptFaults → result.2.count ≡ 100 }
         ensures places { result.0 ≡ NoPlaces → IsTrue (Q.all_retired result.1) }
         ensures spent { result.0 ≡ Spent → IsTrue (Q.is_spent result.1) }
     {
         let Arrivals { acceptor, door, .. } = self;
         drop(acceptor);
-        door.into_inner().into_end(count)
+        door.into_inner().into_end()
     }
 }

@@ -1,11 +1,12 @@
 //! The door: the value under whose lock connections are let in.
 ghost use Rattle.std.specs.Option.{ForSome};
-ghost use Rattle.std.specs.Prelude.{◌≡◌, ◌≢◌, ◌+◌, ◌≤◌, None, Some, true, false, IsTrue, min};
-ghost use Rattle.tcp_connections.specs.Admissions.{IsServed};
+ghost use Rattle.std.specs.Prelude.{◌≡◌, ◌≢◌, ◌+◌, ◌≤◌, None, Some, true, false, IfSome, IsTrue, min};
+ghost use Rattle.tcp_connections.specs.Admissions.{EndsAtCount, LetsInAtMost};
 ghost use Rattle.tcp_connections.specs.declared.admission.ServeEnd.TheVariants.{AcceptFaults, Count, NoPlaces, Spent};
 
 use crate::accepting::AcceptError;
 use crate::admission::{Admission, AdmitOutcome, ServeEnd};
+use crate::supply::Supply;
 use std::time::Duration;
 
 /// How many faults of accepting in succession end a server.
@@ -16,6 +17,11 @@ const FAULTS: u32 = 100;
 const FIRST_PAUSE: u64 = 10;
 
 const LONGEST_PAUSE: u64 = 1_000;
+
+/// The system's numbers for want of descriptors (`EMFILE`) and of memory (`ENOMEM`).
+const TOO_MANY_OPEN_FILES: i32 = 24;
+
+const NO_MEMORY: i32 = 12;
 
 /// A pause before something is tried again, in milliseconds: each is twice the one before it.
 #[derive(Clone, Copy)]
@@ -65,6 +71,19 @@ impl Errors {
         }
     }
 
+    /// None came: there is too little for one connection. The system's number says of what.
+    pub(crate) fn of_too_little(supply: &Supply) -> Errors {
+        let lacks = if supply.descriptors < supply.to_begin {
+            TOO_MANY_OPEN_FILES
+        } else {
+            NO_MEMORY
+        };
+        Errors {
+            last: Some(lacks),
+            ..Errors::none()
+        }
+    }
+
     // One more came.
     fn add(&mut self, error: AcceptError)
         ensures one_more { self.new.count ≡ min 100 (self.old.count + 1) }
@@ -89,14 +108,13 @@ impl Errors {
 #[derive(Drop)]
 pub(crate) struct Door<Q: Admission> {
     admission: Q,
-    // how many were let in; `None` once that can't be counted any more
-    let_in: Option<u32>,
-    // how many connections are let in before the server ends
-    count: Option<u32>,
-    // how it ended, if not by that count
+    // how many more are let in before the server ends, if it ends by their number
+    left: Option<u32>,
+    // how it ended, if not by that
     end: Option<ServeEnd>,
     errors: Errors,
-    ghost counted: { ForSome let_in (λ n. Q.let_in admission ≡ n) },
+    ghost within: { end ≢ Some Spent → ForSome left (λ more. Q.count ≡ Some (Q.let_in admission + more)) },
+    ghost endless: { left ≡ None → Q.count ≡ None },
     ghost otherwise: { end ≢ Some Count },
     ghost by_faults: { end ≡ Some AcceptFaults → errors.count ≡ 100 },
     ghost by_places: { end ≡ Some NoPlaces → IsTrue (Q.all_retired admission) },
@@ -104,14 +122,14 @@ pub(crate) struct Door<Q: Admission> {
 }
 
 impl<Q: Admission> Door<Q> {
-    /// A door through which nobody came yet.
+    /// A door through which nobody came yet. The server ends once so many were let in.
     pub fn new(admission: Q, count: Option<u32>) -> Door<Q>
         requires nobody { Q.let_in admission ≡ 0 }
+        requires count { Q.count ≡ count }
     {
         Door {
             admission,
-            let_in: Some(0),
-            count,
+            left: count,
             end: None,
             errors: Errors::none(),
         }
@@ -120,25 +138,29 @@ impl<Q: Admission> Door<Q> {
     /// Whether nobody is let in any more.
     pub fn is_over(&self) -> bool
         ensures open { result ≡ false → self.now.end ≡ None }
+        ensures more { result ≡ false → self.now.left ≢ Some 0 }
     {
-        self.end.is_some() || (self.count.is_some() && self.count == self.let_in)
+        self.end.is_some() || self.left == Some(0)
     }
 
     /// Lets a connection in, if it is not refused. It ends the succession of errors.
     pub fn admit(&mut self, came: Q::Came) -> Option<Q::Work>
         requires open { self.old.end ≡ None }
+        requires more { self.old.left ≢ Some 0 }
+        ensures its { IfSome result (Q.is_its came) }
         ensures anew { self.new.errors.count ≡ 0 }
         ensures last { self.new.errors.last ≡ self.old.errors.last }
     {
         self.errors.end();
         match self.admission.admit(came) {
             AdmitOutcome::In(work) => {
-                self.let_in = self.let_in.and_then(|count| count.checked_add(1));
+                if let Some(left) = self.left {
+                    self.left = Some(left - 1);
+                }
                 Some(work)
             }
             AdmitOutcome::Refused(_) => None,
             AdmitOutcome::Spent => {
-                self.let_in = None;
                 self.end = Some(ServeEnd::Spent);
                 None
             }
@@ -185,12 +207,15 @@ impl<Q: Admission> Door<Q> {
 
     /// Ends the server, since there is no memory for it or no thread that serves anybody.
     pub fn give_up(&mut self) {
-        self.end = Some(ServeEnd::OutOfMemory);
+        if !self.is_over() {
+            self.end = Some(ServeEnd::OutOfMemory);
+        }
     }
 
     /// How the server ended, its admission, and the errors of accepting that came last.
-    pub fn into_end(self, count: Option<u32>) -> (ServeEnd, Q, Errors)
-        ensures served { IsServed result.0 count 0 (Q.let_in result.1) }
+    pub fn into_end(self) -> (ServeEnd, Q, Errors)
+        ensures count { EndsAtCount result.0 Q.count (Q.let_in result.1) }
+        ensures most { LetsInAtMost result.0 Q.count (Q.let_in result.1) }
         ensures errors { result.2 ≡ self.errors }
         ensures faults { result.0 ≡ AcceptFaults → result.2.count ≡ 100 }
         ensures places { result.0 ≡ NoPlaces → IsTrue (Q.all_retired result.1) }
@@ -198,14 +223,15 @@ impl<Q: Admission> Door<Q> {
     {
         let Door {
             admission,
-            let_in,
+            left,
             end,
             errors,
-            ..
         } = self;
-        if count.is_some() && count == let_in {
-            return (ServeEnd::Count, admission, errors);
-        }
-        (end.unwrap_or(ServeEnd::OutOfMemory), admission, errors)
+        let end = match (end, left) {
+            (Some(ServeEnd::Spent), _) => ServeEnd::Spent,
+            (_, Some(0)) => ServeEnd::Count,
+            (end, _) => end.unwrap_or(ServeEnd::OutOfMemory),
+        };
+        (end, admission, errors)
     }
 }

@@ -1,8 +1,7 @@
 //! The names of the two ends of a connection.
-ghost use Rattle.std.specs.Prelude.{◌≡◌, None, IfOk, map, option_map};
-ghost use Rattle.std.specs.Char.{to_ascii_lowercase};
+ghost use Rattle.std.specs.Prelude.{◌≡◌, IfOk};
 ghost use Rattle.rule_lookup.specs.Peers.{given};
-ghost use Rattle.tcp_connections.specs.Names.{client_name, local_name};
+ghost use Rattle.tcp_connections.specs.Names.{client_at, client_name, local_at, local_name};
 
 use child_jobs::{HostTable, Local};
 use rule_lookup::Peer;
@@ -27,12 +26,7 @@ impl HostNames {
     /// # Errors
     /// There was no memory for the name.
     pub fn peer(&self, alloc: Global, ip: [u8; 4], port: u16) -> Result<Peer, AllocError>
-        ensures { IfOk result (λ peer. peer ≡ record {
-          ip = ip;
-          port = port;
-          host = option_map (map to_ascii_lowercase) (client_name self.now ip);
-          info = None;
-        }) }
+        ensures { IfOk result (λ peer. peer ≡ client_at self.now ip port) }
     {
         match Peer::new(alloc, ip, port, self.client_name(ip), None) {
             Ok(peer) => Ok(peer),
@@ -45,7 +39,7 @@ impl HostNames {
     /// # Errors
     /// There was no memory for the name.
     pub fn local(&self, alloc: Global, ip: [u8; 4], port: u16) -> Result<Local, AllocError>
-        ensures { IfOk result (λ end. end ≡ record { ip = ip; port = port; host = local_name self.now ip }) }
+        ensures { IfOk result (λ end. end ≡ local_at self.now ip port) }
     {
         let host = match self.local_name(ip) {
             Some(name) => Some(String::from_str(alloc, name)?),

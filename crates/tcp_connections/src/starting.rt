@@ -1,5 +1,5 @@
 //! Starts the programs of connections.
-ghost use Rattle.std.specs.Prelude.{◌≡◌, IfOk, IfErr};
+ghost use Rattle.std.specs.Prelude.{◌≡◌, IfOk, IfErr, IsTrue, Bool};
 ghost use Rattle.child_jobs.specs.Programs.{ProgramText};
 ghost use Rattle.child_jobs.specs.declared.outcome.NotStarted.{NotStarted as Refusal};
 ghost use Rattle.child_jobs.specs.Variables.{Variables};
@@ -11,6 +11,10 @@ use std::alloc::Global;
 pub trait Starter<X> {
     /// What it starts.
     type Job: Job;
+
+    /// Whether it may be asked to start this program with these variables for a connection. Who lends a starter says
+    /// when.
+    ghost may: { Self → X → ProgramText → Variables → Bool };
 
     /// Why it may refuse to start a program with these variables for a connection. A starter of which nothing is known
     /// may answer anything.
@@ -27,6 +31,7 @@ pub trait Starter<X> {
         program: &Program,
         environment: &Environment,
     ) -> Result<Self::Job, NotStarted>
+        requires may { IsTrue (may self.now connection.now program.now environment.now) }
         ensures refused { IfErr result (refuses self.now connection.now program.now environment.now) }
         ensures program { IfOk result (λ job. Self.Job.program job ≡ program.now) }
         ensures environment { IfOk result (λ job. Self.Job.environment job ≡ environment.now) };
@@ -43,6 +48,8 @@ pub struct ConnectionLauncher<'a, S, X> {
 
 impl<S: Starter<X>, X> Launcher for ConnectionLauncher<'_, S, X> {
     type Job = S::Job;
+
+    ghost may = { λ launcher. S.may launcher.starter.now launcher.connection.now };
 
     ghost refuses = { λ launcher. S.refuses launcher.starter.now launcher.connection.now };
 

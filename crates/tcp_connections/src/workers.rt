@@ -1,7 +1,7 @@
 //! Workers: each lets one connection after another in, and serves it up to the start of its program or to its end.
 ghost use Rattle.std.specs.Prelude.{◌≡◌, IsTrue};
 ghost use Rattle.std.specs.Thread.{IsSend, IsSync};
-ghost use Rattle.tcp_connections.specs.Admissions.{FailedToAccept, IsServed, suffices};
+ghost use Rattle.tcp_connections.specs.Admissions.{EndsAtCount, FailedToAccept, LetsInAtMost, suffices};
 ghost use Rattle.tcp_connections.specs.declared.admission.ServeEnd.TheVariants.{AcceptFaults, NoPlaces, Spent};
 
 use crate::accepting::{Accepted, Acceptor};
@@ -77,14 +77,20 @@ where
         reserve: &'a Reserve,
     ) -> (ServeEnd, V::Entrance, Errors)
         requires nobody { V.Entrance.let_in entrance ≡ 0 }
-        ensures served { IsServed result.0 count 0 (V.Entrance.let_in result.1) }
+        requires count { V.Entrance.count ≡ count }
+        ensures count { EndsAtCount result.0 count (V.Entrance.let_in result.1) }
+        ensures most { LetsInAtMost result.0 count (V.Entrance.let_in result.1) }
         ensures faults { result.0 ≡ AcceptFaults → FailedToAccept (suffices supply) result.2.count }
         ensures places { result.0 ≡ NoPlaces → IsTrue (V.Entrance.all_retired result.1) }
         ensures spent { result.0 ≡ Spent → IsTrue (V.Entrance.is_spent result.1) }
     {
         if !supply.suffices() {
             drop(acceptor);
-            return (ServeEnd::AcceptFaults, entrance, Errors::none());
+            return (
+                ServeEnd::AcceptFaults,
+                entrance,
+                Errors::of_too_little(&supply),
+            );
         }
         let means = Means::new(supply, most, count);
         let workers = Workers {
@@ -100,7 +106,7 @@ where
         };
         workers.run();
         let Workers { arrivals, .. } = workers;
-        arrivals.into_end(count)
+        arrivals.into_end()
     }
 
     // Lets connections in until the server comes to an end, and waits until all that were let in are over.

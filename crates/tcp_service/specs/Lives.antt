@@ -8,7 +8,7 @@ use Rattle.child_jobs.specs.declared.outcome.DropCause.TheVariants as cause
 use Rattle.child_jobs.specs.declared.outcome.NotStarted.{NotStarted}
 use Rattle.child_jobs.specs.declared.outcome.Status.{Status}
 use Rattle.one_connection.specs.Openings.{Opening, WasFound}
-use Rattle.one_connection.specs.Servings.{Drops, FailsFor, IsChild, IsDecidedAs, IsRefused}
+use Rattle.one_connection.specs.Servings.{Drops, FailsFor, IsChild, IsDecidedAs, IsRefused, MayStart}
 use Rattle.rule_lookup.specs.declared.instr.Verdict.TheVariants.{Deny}
 use Rattle.server_events.specs.declared.event.Event.{Event}
 use Rattle.server_events.specs.declared.event.Event.TheVariants.{Admitted, Dropped, Ended, Retired, StartFailed}
@@ -56,6 +56,13 @@ abbrev pub IsDecidedChild : (finds : Opening → Type 0) → (honest sound : Boo
     → ProgramText → Variables → Type 0
 IsDecidedChild finds honest sound peer local plan program environment =
     ∥ IsChild finds honest sound peer local plan program environment ∥₁
+
+-- a program may be started for each connection, by each decision to allow it that something which it may find gives
+abbrev pub MayStartEach : {X : Type 0} → (finds : (serial : ℕ) → Opening → Type 0) → (honest sound : Bool) → PlanText
+    → (may : X → ProgramText → Variables → Bool) → Type 0
+MayStartEach {X = X} finds honest sound plan may =
+    (connection : X) (serial : ℕ) (peer : Client) (local : LocalEnd)
+    → MayStart (finds serial) honest sound peer local plan (may connection)
 
 -- a program that runs for a connection is so by what that connection found when it opened the rules
 abbrev pub IsOwnChild : (found : Option Opening) → (finds : Opening → Type 0) → (honest sound : Bool) → Client → LocalEnd

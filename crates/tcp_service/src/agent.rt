@@ -11,7 +11,7 @@ use one_connection::{Agent, cause_of_open, decide_by_pass};
 use rule_lookup::{DecideFault, Decision, Peer};
 use server_log::{Cause, Log, Told};
 use server_yard::{Finding, Leaving, Pass};
-use shared_site::turns::{Decided, Left, Opened, Retired, Started};
+use shared_site::site::{Decided, Left, Opened, Retired, Started};
 use shared_site::{Ground, Made, OutOfTurn, Turn, YardOf};
 use std::alloc::Global;
 use std::snapshot::Snapshot;

@@ -1,12 +1,14 @@
 //! How a connection that was accepted is let in: named and counted.
-ghost use Rattle.std.specs.Prelude.{◌≡◌, ◌-◌, ◌^◌, ⊤, IsTrue, is_some};
+ghost use Rattle.std.specs.Prelude.{◌≡◌, ◌-◌, ◌^◌, ⊤, IfOk, IfSome, IsTrue, is_some};
 ghost use Rattle.server_yard.specs.declared.register.AdmitFault.TheVariants.{Spent};
 ghost use Rattle.shared_site.specs.Callers.{caller_share};
 ghost use Rattle.shared_site.specs.Receipts.{AdmitsOrNot, receipt_of, refusal_fault};
 ghost use Rattle.shared_site.specs.Turns.{told_if_admitted};
 ghost use Rattle.tcp_connections.specs.Admissions.{LetsIn, OnSpent};
+ghost use Rattle.tcp_connections.specs.Names.{client_at, local_at};
 ghost use Rattle.tcp_connections.specs.declared.admission.AdmitOutcome.TheVariants as outcome;
 ghost use Rattle.tcp_service.specs.declared.entrance.Refused.TheVariants.{OutOfMemory};
+ghost use Rattle.tcp_service.specs.Accepting.{IsAccepted};
 ghost use Rattle.tcp_service.specs.Lives.{AdmitsOwn};
 
 use crate::host::{AgentGround, Host};
@@ -17,7 +19,7 @@ use child_jobs::{DropCause, Local, Place};
 use rule_lookup::Peer;
 use server_log::{Log, Told};
 use server_yard::{AdmitFault, Assumptions, Leaving};
-use shared_site::turns::{Admit, Left};
+use shared_site::site::{Admit, Left};
 use shared_site::{AllRetired, CallerOf, Ground, Made, Refusal, Turn, YardOf};
 use std::alloc::{AllocError, Global};
 use std::snapshot::Snapshot;
@@ -100,6 +102,11 @@ where
 
     type Refusal = Refused;
 
+    ghost is_its = { λ came work. IfSome came
+        (IsAccepted work.server.now.service.now.names work.peer work.local work.streams) };
+
+    ghost count = { H.Callers.admissions };
+
     ghost let_in = { λ entrance. caller_share entrance.admitter };
 
     ghost all_retired = { λ entrance. is_some entrance.seen.retired };
@@ -154,7 +161,11 @@ fn ends_of<S>(
     alloc: Global,
     names: &HostNames,
     accepted: &Accepted<S>,
-) -> Result<(Peer, Local), AllocError> {
+) -> Result<(Peer, Local), AllocError>
+    ensures client { IfOk result (λ ends. ends.0 ≡ client_at names.now accepted.now.ip accepted.now.port) }
+    ensures end { IfOk result (λ ends.
+        ends.1 ≡ local_at names.now accepted.now.local.ip accepted.now.local.port) }
+{
     let peer = names.peer(alloc, accepted.ip, accepted.port)?;
     let local = names.local(alloc, accepted.local.ip(), accepted.local.port())?;
     Ok((peer, local))

@@ -59,6 +59,9 @@ pub trait Rules<L: Assumptions, F: RulesFile + Drop> {
     /// What one connection opens them by.
     type Handle: RulesHandle<L, F> + Drop;
 
+    /// The name of the rules file in its folder; none if there are no rules.
+    ghost named: { Self → Option (List ℕ) };
+
     /// Whether a handle is a new one of these rules.
     ghost gives: { Self → Self.Handle → Type 0 };
 

@@ -14,6 +14,10 @@ use tcp_connections::{Accepted, Follow, Patience, Shut};
 /// How many reads a pump makes at most.
 const MOST_READS: u64 = 1 << 40;
 
+/// So many bytes of a client are read and dropped once its program reads no more. With unread bytes the end of the
+/// connection would be a reset, by which the client may lose what the program wrote.
+const DROPPED: usize = 64 * 1024;
+
 /// The streams of a connection: three who hold one stream.
 #[derive(Drop)]
 pub(crate) struct ClientStreams<S> {
@@ -122,7 +126,8 @@ pub(crate) struct Downward<S, O> {
 }
 
 impl<H: Host> Server<'_, H> {
-    /// Passes on what the client sends, until the client ends its stream or the program reads no more.
+    /// Passes on what the client sends, until the client ends its stream, or the program reads no more and the
+    /// connection is ended.
     pub(crate) fn pass_up(&self, upward: Upward<H::Holder, H::Input>) {
         let context = &self.context;
         if self.service.recording {
@@ -157,7 +162,7 @@ impl<G: AgentGround> AgentContext<'_, G> {
     }
 }
 
-// Pumps what a client sends to its program, and lets both ends go.
+// Pumps what a client sends to its program, and closes the program's end. What the program doesn't read is dropped.
 fn pump_up<S: Read + Drop, I: Write + Drop, T: Tap + Drop>(
     alloc: Global,
     upward: Upward<S, I>,
@@ -172,6 +177,20 @@ fn pump_up<S: Read + Drop, I: Write + Drop, T: Tap + Drop>(
         &mut tap,
         MOST_READS,
     );
+    let Upward { mut reader, to, .. } = upward;
+    drop(to);
+    drop_rest(&mut reader);
+}
+
+// Reads what comes still, up to the end or to so many bytes, and drops it.
+fn drop_rest<S: Read>(reader: &mut S) {
+    let (mut piece, mut left) = ([0u8; 512], DROPPED);
+    for _ in 0..DROPPED {
+        match reader.read(&mut piece) {
+            Ok(size) if 0 < size && size < left => left -= size,
+            _ => return,
+        }
+    }
 }
 
 // Pumps the output of a program to its client, and lets both ends go.

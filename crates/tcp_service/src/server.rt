@@ -1,4 +1,7 @@
 //! What all connections of a server share.
+ghost use Rattle.tcp_service.specs.Agents.{IsFoundFor};
+ghost use Rattle.tcp_service.specs.Lives.{MayStartEach};
+
 use crate::host::{AgentGround, Host};
 use child_jobs::Plan;
 use server_log::Log;
@@ -22,12 +25,15 @@ pub(crate) struct AgentContext<'a, G: AgentGround> {
     pub log: &'a Mutex<Log<G::Lines>>,
 }
 
-/// What all connections of a server share: what their agents share, and what serves them.
+/// What all connections of a server share: what their agents share, and what serves them. Its starter may be asked for
+/// the programs of connections that are allowed (`may`), and for nothing else.
 #[derive(Drop)]
 pub(crate) struct Server<'a, H: Host> {
     pub context: AgentContext<'a, H>,
     pub starter: &'a H::Starter,
     pub service: &'a Service<'a>,
+    pub ghost may: { MayStartEach (IsFoundFor H.Places.met (H.Rules.gives context.rules.now) H.Handle.opened)
+        H.File.honest H.File.sound context.plan.now (H.Starter.may starter.now) },
 }
 
 /// What a server does for all of its connections.

@@ -1,9 +1,11 @@
 //! The server: it lets connections in, each served by threads that are kept, until it comes to an end.
 ghost use Rattle.std.specs.Prelude.{◌≡◌, ◌↔◌, ◌+◌, true, false, IsTrue, is_some, length};
-ghost use Rattle.server_yard.specs.Yards.{HasRun, yard_books, yard_server};
+ghost use Rattle.server_yard.specs.Yards.{HasRun, name_of, yard_books, yard_rules, yard_server};
 ghost use Rattle.shared_site.specs.Callers.{back_lacking, back_share, caller_share};
-ghost use Rattle.tcp_connections.specs.Admissions.{FailedToAccept, IsServed, suffices};
+ghost use Rattle.tcp_connections.specs.Admissions.{EndsAtCount, FailedToAccept, LetsInAtMost, suffices};
 ghost use Rattle.tcp_connections.specs.declared.admission.ServeEnd.TheVariants.{AcceptFaults, NoPlaces, Spent};
+ghost use Rattle.tcp_service.specs.Agents.{IsFoundFor};
+ghost use Rattle.tcp_service.specs.Lives.{MayStartEach};
 
 use crate::entrance::{Entrance, Seen};
 use crate::host::Host;
@@ -49,6 +51,9 @@ pub struct Closed<H: Host> {
         ≡ H.Callers.before + (caller_share admitter.value + caller_share teller.value) },
     pub ghost all_retired: { (has_lost ≡ false)
         ↔ ((yard_books yard).report.retired ≡ length (yard_server yard).connections) },
+    // how many it let in
+    pub ghost by_count: { EndsAtCount end H.Callers.admissions (caller_share admitter.value) },
+    pub ghost most: { LetsInAtMost end H.Callers.admissions (caller_share admitter.value) },
     pub ghost by_places: { end ≡ NoPlaces → IsTrue (is_some seen.retired) },
     pub ghost by_numbers: { end ≡ Spent → IsTrue (is_some seen.spent) },
     // its events are a run of a server
@@ -60,7 +65,8 @@ pub struct Closed<H: Host> {
 ///
 /// Of the two callers of the site, with a part each of `parts`, one lets connections in and makes no other events; the
 /// other makes all others. `plan` is what each connection is served by. `starter` starts programs that have what the
-/// service's mode says as their standard input and output. Each connection opens `rules` for itself. Once no more
+/// service's mode says as their standard input and output; it is asked for nothing but the plan's program, with the
+/// variables of a decision to allow. Each connection opens `rules` for itself, which are the yard's. Once no more
 /// connections are let in, the acceptor is dropped. By faults of accepting the server ends only if the last hundred
 /// answers of the acceptor were errors, or if there was too little for one connection.
 pub fn serve<'a, H, A>(
@@ -94,7 +100,10 @@ where
     requires parts { (parts.name ≡ H.Callers.name) × (parts.parts ≡ H.Callers.parts) × (parts.parts ≡ CALLERS)
         × (H.Callers.all ≡ CALLERS) }
     requires before { H.Callers.before ≡ (yard_books yard).count }
-    ensures count { IsServed result.end service.now.limits.count 0 (caller_share result.admitter.value) }
+    requires count { H.Callers.admissions ≡ service.now.limits.count }
+    requires named { H.Rules.named rules.now ≡ name_of (yard_rules yard) }
+    requires may { MayStartEach (IsFoundFor H.Places.met (H.Rules.gives rules.now) H.Handle.opened)
+        H.File.honest H.File.sound plan.now (H.Starter.may starter.now) }
     ensures faults { result.end ≡ AcceptFaults → FailedToAccept (suffices service.now.supply) result.errors.count }
 {
     let live = yard.live();
@@ -153,10 +162,11 @@ fn close<H: Host>(
 ) -> Closed<H>
     requires places { end ≡ NoPlaces → IsTrue (is_some seen.retired) }
     requires spent { end ≡ Spent → IsTrue (is_some seen.spent) }
+    requires count { EndsAtCount end H.Callers.admissions (caller_share admitter) }
+    requires most { LetsInAtMost end H.Callers.admissions (caller_share admitter) }
     requires all { H.Callers.all ≡ H.Callers.parts }
     requires both { (back_lacking back ≡ 2) × (back_share back ≡ 0) }
     ensures end { result.end ≡ end }
-    ensures admitter { result.admitter.value ≡ admitter }
     ensures errors { result.errors ≡ errors }
 {
     let mut back = back;

@@ -16,7 +16,7 @@ use rules_install::whole::prepare;
 use rules_install::{FileNames, Install};
 use server_events::Event;
 use server_yard::{AdmitFault, Assumptions, Leaving, Pass};
-use shared_site::turns::{Admit, Decided, Left, Started};
+use shared_site::site::{Admit, Decided, Left, Started};
 use shared_site::{Caller, Callers, Made, OutOfTurn, Receipt, Site, Turn};
 use std::alloc::{AllocError, AllocFailed, Global};
 use std::sync::Wait;

@@ -1,5 +1,5 @@
 //! Children that do nothing, and end by themselves.
-ghost use Rattle.std.specs.Prelude.{◌≡◌, false, ⊤, IfOk};
+ghost use Rattle.std.specs.Prelude.{◌≡◌, false, ⊤, IfOk, true};
 ghost use Rattle.child_jobs.specs.declared.outcome.Status.TheVariants.{Code};
 ghost use Rattle.child_jobs.specs.Runs.{place_of};
 
@@ -66,6 +66,8 @@ struct Starts;
 
 impl Launcher for Starts {
     type Job = Idle;
+
+    ghost may = { λ _ _ _. true };
 
     ghost refuses = { λ _ _ _ _. ⊥ };
 

@@ -193,6 +193,8 @@ pub struct ScriptedJob<'a, R> {
 impl<'a, R: Clock + Wait> Launcher for Scripts<'a, R> {
     type Job = ScriptedJob<'a, R>;
 
+    ghost may = { λ _ _ _. true };
+
     ghost refuses = { λ _ _ _ _. ⊤ };
 
     fn start(
@@ -220,6 +222,8 @@ impl<'a, R: Clock + Wait> Launcher for Scripts<'a, R> {
 
 impl<'a, R: Clock + Wait> Starter<Silent> for Scripts<'a, R> {
     type Job = ScriptedJob<'a, R>;
+
+    ghost may = { λ _ _ _ _. true };
 
     ghost refuses = { λ _ _ _ _ _. ⊤ };
 

@@ -1,6 +1,6 @@
 //! A server without a rules file, over a directory in memory.
 ghost use Rattle.std.specs.Prelude.{◌≡◌, ◌<◌, true, false, IfSome, None, ⊤};
-ghost use Rattle.server_yard.specs.Yards.{yard_books};
+ghost use Rattle.server_yard.specs.Yards.{yard_books, yard_rules};
 
 use crate::answer::Answer;
 use crate::history::add_history;
@@ -50,6 +50,8 @@ struct NoRules;
 
 impl<L: Assumptions> Rules<L, MemFile> for NoRules {
     type Handle = NoRules;
+
+    ghost named = { λ _. None };
 
     ghost gives = { λ _ _. ⊤ };
 
@@ -184,7 +186,7 @@ where
     requires places { (places.name ≡ L.name) × (places.parts ≡ L.parts) × (places.parts ≡ asked.limit) }
     requires met { L.met ≡ false }
     requires parts { (parts.name ≡ N.name) × (parts.parts ≡ N.parts) × (parts.parts ≡ CALLERS) }
-    requires callers { (N.all ≡ CALLERS) × (N.before ≡ 0) }
+    requires callers { (N.all ≡ CALLERS) × (N.before ≡ 0) × (N.admissions ≡ service.now.limits.count) }
 {
     let Some(yard) = yard_of::<L>(alloc, asked, places) else {
         return out.fail();
@@ -233,6 +235,7 @@ fn yard_of<L: Assumptions>(alloc: Global, asked: Asked, places: Blank) -> Option
     requires places { (places.name ≡ L.name) × (places.parts ≡ L.parts) × (places.parts ≡ asked.limit) }
     requires met { L.met ≡ false }
     ensures new { IfSome result (λ yard. (yard_books yard).count ≡ 0) }
+    ensures rules { IfSome result (λ yard. yard_rules yard ≡ None) }
 {
     let made = Yard::<L, MemDir>::with_address_limit(
         alloc,

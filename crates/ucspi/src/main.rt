@@ -19,6 +19,7 @@ mod tool;
 
 use byte_streams::Patient;
 use fault_hints::Voice;
+use server_parts::opening::stand_in;
 use std::process::ExitCode;
 use stream_tools::{run_fixcrio, run_recordio};
 use tool::run_tcpserver;
@@ -33,6 +34,7 @@ fn main(rt: HostRuntime) -> ExitCode {
         }
     };
     let pass = |recorded: bool, words: &[Vec<u8>]| {
+        let _held = [stand_in(&rt), stand_in(&rt), stand_in(&rt)];
         if recorded {
             run_recordio(&rt, Patient::new(&rt, rt.stderr()), words)
         } else {

@@ -1,7 +1,7 @@
 //! The rules of a server in their folder, which each connection opens for itself.
-ghost use Rattle.std.specs.Prelude.{◌≡◌, false};
+ghost use Rattle.std.specs.Prelude.{◌≡◌, false, option_copied};
 ghost use Rattle.dir_disk.specs.OsParts.{os_disk, os_state, system_folder};
-ghost use Rattle.server_parts.specs.RulesPaths.{IsFolderOfPath};
+ghost use Rattle.server_parts.specs.RulesPaths.{IsFolderOfPath, rules_name, rules_path};
 ghost use Rattle.ucspi.specs.Opened.{IsThere};
 
 use dir_calls::{Dir, DirFault, Name};
@@ -25,8 +25,10 @@ pub(crate) struct FolderRules<'a, L: Assumptions, R> {
 impl<'a, L: Assumptions, R: Files<File = File>> Rules<L, RulesOnDisk> for FolderRules<'a, L, R> {
     type Handle = FolderHandle<'a, L, SystemDisk<&'a R, NoWait>>;
 
-    ghost gives = { λ rules handle.
-        (handle.name ≡ rules.at.name) × IsFolderOfPath rules.at.path.now (system_folder (os_disk handle.dir)) };
+    ghost named = { λ rules. rules_name rules.at };
+
+    ghost gives = { λ rules handle. (option_copied handle.name ≡ rules_name rules.at)
+        × IsFolderOfPath (rules_path rules.at) (system_folder (os_disk handle.dir)) };
 
     fn handle(
         &self,
@@ -34,13 +36,13 @@ impl<'a, L: Assumptions, R: Files<File = File>> Rules<L, RulesOnDisk> for Folder
     ) -> Result<FolderHandle<'a, L, SystemDisk<&'a R, NoWait>>, AllocError> {
         Ok(FolderHandle {
             dir: self.at.folder(alloc)?,
-            name: self.at.name,
+            name: self.at.name(),
             yard: PhantomData,
         })
     }
 
     fn path(&self) -> &str {
-        self.at.path
+        self.at.path()
     }
 
     fn error(&self, handle: &FolderHandle<'a, L, SystemDisk<&'a R, NoWait>>) -> Option<i32> {

@@ -1,5 +1,5 @@
 //! The tool: its words, what it opens, and the server.
-ghost use Rattle.std.specs.Prelude.{◌≡◌, ◌⊎◌, false, true, map, IfOk, IfErr};
+ghost use Rattle.std.specs.Prelude.{◌≡◌, ◌⊎◌, false, true, map, option_copied, IfOk, IfErr};
 ghost use Rattle.fault_hints.specs.Voices.{mode_by_name};
 ghost use Rattle.server_parts.specs.Asked.{FailsNames, starts_in};
 ghost use Rattle.server_parts.specs.Services.{AreRulesOf};
@@ -9,7 +9,7 @@ ghost use Rattle.ucspi.specs.Words.{AnswersWords};
 ghost use Rattle.server_words.specs.Operands.{texts};
 ghost use Rattle.server_words.specs.Plans.{plan_of as plan_by_words};
 ghost use Rattle.server_yard.specs.Kept.{rules_of};
-ghost use Rattle.server_yard.specs.Yards.{yard_books, yard_rules, yard_server};
+ghost use Rattle.server_yard.specs.Yards.{name_of, yard_books, yard_rules, yard_server};
 ghost use Rattle.stream_tools.specs.Programs.{text_in, texts_of};
 
 use crate::ends::{Finished, end_of};
@@ -247,18 +247,15 @@ fn run_site<'a, L: Assumptions + Send + Sync, N: Callers + Send + Sync, P: Syste
         × (places.parts ≡ words.now.limits.connections) }
     requires met { L.met ≡ false }
     requires parts { (parts.name ≡ N.name) × (parts.parts ≡ N.parts) × (parts.parts ≡ CALLERS) }
-    requires callers { (N.all ≡ CALLERS) × (N.before ≡ 0) }
+    requires callers { (N.all ≡ CALLERS) × (N.before ≡ 0) × (N.admissions ≡ server.now.service.limits.count) }
     requires asked { AreAsked words.now server.now.plan server.now.service }
     requires rules { AreRulesOf words.now rules }
+    requires named { option_copied name ≡ name_of (rules_of rules) }
     requires accepts { AcceptsAsAsked P.listens words.now acceptor }
     requires starts { starts_in starter.now ≡ words.now.mode }
 {
-    let (alloc, path) = (rt.alloc(), words.rules().unwrap_or_default());
-    let at = RulesPath {
-        files: rt,
-        path,
-        name,
-    };
+    let alloc = rt.alloc();
+    let at = RulesPath::by_words(rt, words, name);
     let has_names = words.hosts().is_some() && words.names_remote();
     if !has_names && words.level() == Level::All && at.name_someone(alloc) {
         let _ = server.log.lock(rt).no_names();

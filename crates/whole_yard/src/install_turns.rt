@@ -19,7 +19,7 @@ use dir_calls::Phase;
 use rules_install::{Install, InstallFault};
 use server_events::Event;
 use shared_site::receipt::EventSnapshot;
-use shared_site::turn::made;
+use shared_site::site::made;
 use shared_site::{Ground, Made, Turn, YardOf};
 use std::alloc::Global;
 

@@ -1,5 +1,5 @@
 //! The turn by which the yard itself opens the rules for a connection. The server doesn't make it: there a connection
-//! opens them by a handle of its own (`shared_site::turns::Opened`).
+//! opens them by a handle of its own (`shared_site::site::Opened`).
 ghost use Rattle.std.specs.Prelude.{◌≡◌, ◌↔◌, false, Err, None, IsTrue, IfOk, OnErr, is_some};
 ghost use Rattle.server_events.specs.ServerState.{is_admitted, stage_of};
 ghost use Rattle.server_events.specs.Worlds.{missing_by};
@@ -18,7 +18,7 @@ use dir_calls::DirFault;
 use server_events::{Event, Stage};
 use server_yard::Pass;
 use shared_site::receipt::EventSnapshot;
-use shared_site::turn::made;
+use shared_site::site::made;
 use shared_site::{Ground, Made, Turn, YardOf};
 use std::alloc::Global;
 

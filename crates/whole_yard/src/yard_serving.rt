@@ -1,6 +1,8 @@
 //! One connection that a yard serves.
 ghost use Rattle.std.specs.Prelude.{◌≡◌, IsTrue, List};
+ghost use Rattle.child_jobs.specs.Programs.{ProgramText};
 ghost use Rattle.child_jobs.specs.Runs.{place_of};
+ghost use Rattle.child_jobs.specs.Variables.{Variables};
 ghost use Rattle.server_events.specs.Worlds.{KeptFile};
 ghost use Rattle.server_events.specs.declared.event.Event.{Event as EventOf};
 ghost use Rattle.server_events.specs.declared.event.Stage.TheVariants as stage;
@@ -33,6 +35,7 @@ pub fn serve_by_yard<L: Assumptions, D: Dir + Drop, S: Launcher + Drop, W: Write
     writer: &mut W,
 ) -> Served<L, S::Job>
     requires admitted { StandsAt agent.old.yard place serial peer.now stage.Admitted }
+    requires may { (program : ProgramText) (environment : Variables) → IsTrue (S.may launcher program environment) }
     ensures serves { IsTrue D.honest → ServesTo serial (last_event serial result)
         (yard_state agent.old.yard) (yard_state agent.new.yard) }
     ensures headline { IsTrue D.honest → (history : List EventOf) (files : List KeptFile)

@@ -5,8 +5,13 @@ use Rattle.std.proofs.Common.{inl, refl, rules, subst}
 use Rattle.child_jobs.specs.declared.outcome.DropCause.{DropCause}
 use Rattle.child_jobs.specs.declared.outcome.DropCause.TheVariants as cause
 use Rattle.server_events.specs.declared.event.Stage.TheVariants as stage
-use Rattle.one_connection.specs.Openings.{WasFound}
-use Rattle.one_connection.specs.Servings.{Drops, FailsFor, Greets, is_banner}
+use Rattle.child_jobs.specs.Ends.{LocalEnd}
+use Rattle.child_jobs.specs.Plans.{PlanText}
+use Rattle.child_jobs.specs.Variables.{Variables}
+use Rattle.rule_lookup.specs.Peers.{Client}
+use Rattle.rule_lookup.specs.declared.instr.Verdict.TheVariants.{Allow}
+use Rattle.one_connection.specs.Openings.{Opening, WasFound}
+use Rattle.one_connection.specs.Servings.{Drops, FailsFor, Greets, IsPrepared, is_banner}
 use Rattle.one_connection.specs.Servings.ComesBy.{unopened}
 use Rattle.one_connection.proofs.serving.serve_one.Goals as goal
 
@@ -32,6 +37,25 @@ returns-in-Err-prepare-clause-greeted g c =
     let wrote : Appends old new c.args.plan.now.banner = subst (λ banner. Appends old new banner) c.banner.ensures c.in_default.ensures.greeted in
     let fails = FailsFor (WasFound (g.D.Agent.found c.prepare.new.agent) (g.D.Agent.finds c.args.agent.now)) g.D.Agent.honest g.D.Agent.sound c.args.peer.now in
     greets_dropped old new c.args.plan.now.banner fails g.D.Agent.is_shared (g.D.Agent.failures c.args.agent.now) (g.D.Agent.failures c.prepare.new.agent) c.in-Err-prepare.cause wrote c.in-Err-prepare.ensures.dropped
+
+-- what a connection found may be found
+by_what_may : (kept : Option Opening) (finds : Opening → Type 0) (honest sound : Bool) (peer : Client) (local : LocalEnd) (plan : PlanText) (environment : Variables)
+    → IsPrepared (WasFound kept finds) honest sound peer local plan Allow environment → IsPrepared finds honest sound peer local plan Allow environment
+by_what_may kept finds honest sound peer local plan environment its = record {
+  decision = its.decision;
+  decided = record { found = its.decided.found; was_found = its.decided.was_found.may_be; by_rules = its.decided.by_rules };
+  same = its.same;
+  given = its.given;
+}
+
+pub run-requires-clause-may : goal.run-requires-clause-may
+run-requires-clause-may g c =
+    let kept = g.D.Agent.found c.prepare.new.agent in
+    let finds = g.D.Agent.finds c.args.agent.now in
+    let environment = c.in-Ok.prepared.environment in
+    let its = subst (λ verdict. IsPrepared (WasFound kept finds) g.D.Agent.honest g.D.Agent.sound c.args.peer.now c.args.local.now c.args.plan.now verdict environment)
+    c.in-Allow.is c.in-Ok.ensures.prepared in
+    c.requires.may environment (by_what_may kept finds g.D.Agent.honest g.D.Agent.sound c.args.peer.now c.args.local.now c.args.plan.now environment its)
 
 pub run-requires-clause-stands : goal.run-requires-clause-stands
 run-requires-clause-stands g c =

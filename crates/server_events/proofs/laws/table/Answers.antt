@@ -1,7 +1,6 @@
 use Rattle.std.proofs.Common.{sym, subst}
-use Rattle.server_events.specs.Table.{Happens, Runs}
-use Rattle.server_events.specs.ServerState.{ServerState}
-use Rattle.server_events.proofs.TableLemmas.{step_is, is_step, runs_is, is_runs}
+use Rattle.server_events.specs.ServerState.{ServerState, Happens, Runs}
+use Rattle.server_events.proofs.Effects.{step_is, is_step, runs_is, is_runs}
 use Rattle.server_events.proofs.laws.table.Goals as goal
 
 pub returns-clause-step : goal.returns-clause-step

@@ -1,8 +1,7 @@
 use Rattle.std.proofs.Common.{[], ◌∷◌, ◌++◌, inl, inr, refl}
 use Rattle.std.specs.Prelude.{None}
-use Rattle.server_events.specs.ServerState.{after}
+use Rattle.server_events.specs.ServerState.{after, decided, failed, opened, stop}
 use Rattle.server_events.specs.Steps.{Step}
-use Rattle.server_events.specs.Table.{decided, failed, opened, stop}
 use Rattle.server_events.specs.Taken.{is_there}
 use Rattle.server_events.specs.Worlds.{World, standing}
 use Rattle.server_events.specs.declared.event.Event.TheVariants.{Decided, Opened, StepFailed, Stop}

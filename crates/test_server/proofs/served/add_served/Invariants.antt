@@ -11,4 +11,4 @@ abbrev pub ghosts-serve_by-N-Ledger : goal.ghosts-serve_by-N-Ledger
 ghosts-serve_by-N-Ledger g a = record { name = a.parts.name; parts = a.parts.parts }
 
 abbrev pub ghosts-serve_by-N-Callers : goal.ghosts-serve_by-N-Callers
-ghosts-serve_by-N-Callers g a = record { all = 2; before = 0 }
+ghosts-serve_by-N-Callers g a = record { all = 2; before = 0; admissions = a.service.now.limits.count }

@@ -4,7 +4,7 @@ use Rattle.server_events.specs.declared.event.Event.TheVariants as event
 use Rattle.server_yard.specs.Yards.{yard_roll}
 use Rattle.shared_site.specs.Turns.{IsAt}
 use Rattle.shared_site.proofs.Making.{answered, counted, last_own, made_own, stays}
-use Rattle.shared_site.proofs.turns.StartedTurn.run.Goals as goal
+use Rattle.shared_site.proofs.site.StartedTurn.run.Goals as goal
 
 pub started-requires : goal.started-requires
 started-requires g c =

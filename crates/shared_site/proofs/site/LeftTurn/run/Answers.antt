@@ -5,7 +5,7 @@ use Rattle.server_yard.specs.Leavings.{leaving_event, may_leave}
 use Rattle.server_yard.specs.Yards.{yard_roll, yard_server}
 use Rattle.server_yard.proofs.LeavingEvents.{leaves_from_none}
 use Rattle.shared_site.proofs.Making.{answered, counted, last_own, made_own, of_connections, stays}
-use Rattle.shared_site.proofs.turns.LeftTurn.run.Goals as goal
+use Rattle.shared_site.proofs.site.LeftTurn.run.Goals as goal
 
 pub left-requires : goal.left-requires
 left-requires g c =

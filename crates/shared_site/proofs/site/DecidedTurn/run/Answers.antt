@@ -3,7 +3,7 @@ use Rattle.server_events.specs.declared.event.Event.TheVariants as event
 use Rattle.server_yard.specs.Passes.{pass_serial}
 use Rattle.server_yard.specs.Yards.{yard_roll}
 use Rattle.shared_site.proofs.Making.{answered, counted, last_of, made_by, stays}
-use Rattle.shared_site.proofs.turns.DecidedTurn.run.Goals as goal
+use Rattle.shared_site.proofs.site.DecidedTurn.run.Goals as goal
 
 pub returns-clause-makes : goal.returns-clause-makes
 returns-clause-makes g c =

@@ -5,7 +5,7 @@ use Rattle.server_yard.specs.Yards.{yard_roll}
 use Rattle.shared_site.specs.Turns.{spoken_by}
 use Rattle.shared_site.proofs.Spoken.{notes_from}
 use Rattle.shared_site.proofs.Making.{answered, counted, last_of}
-use Rattle.shared_site.proofs.turns.AdmitTurn.run.Goals as goal
+use Rattle.shared_site.proofs.site.AdmitTurn.run.Goals as goal
 
 pub returns-in-Ok-clause-noted : goal.returns-in-Ok-clause-noted
 returns-in-Ok-clause-noted g c =

@@ -5,7 +5,7 @@ use Rattle.server_yard.specs.Passes.{finding_file}
 use Rattle.server_yard.specs.Rolls.{Notes}
 use Rattle.server_yard.specs.Yards.{yard_roll}
 use Rattle.shared_site.proofs.Making.{counted, last_of, made_by, stays}
-use Rattle.shared_site.proofs.turns.OpenedTurn.run.Goals as goal
+use Rattle.shared_site.proofs.site.OpenedTurn.run.Goals as goal
 
 pub returns-clause-makes : goal.returns-clause-makes
 returns-clause-makes g c =

@@ -1,0 +1,17 @@
+-- What is let in of a connection that was accepted.
+use Rattle.std.specs.Prelude.{◌≡◌}
+use Rattle.child_jobs.specs.Ends.{LocalEnd}
+use Rattle.rule_lookup.specs.Peers.{Client}
+use Rattle.tcp_connections.specs.Names.{client_at, local_at}
+use Rattle.tcp_connections.specs.declared.accepting.Accepted.{Accepted}
+use Rattle.tcp_connections.specs.declared.names.HostNames.{HostNames}
+use Rattle.tcp_service.specs.declared.pumping.ClientStreams.{ClientStreams}
+
+-- the client and the server's end are those of the connection that was accepted, with their names, and so are the streams
+pub record IsAccepted {S : Type 0} (names : HostNames) (peer : Client) (local : LocalEnd) (streams : ClientStreams S)
+    (accepted : Accepted S) : Type 0 where
+  pub client : peer ≡ client_at names accepted.ip accepted.port
+  pub end : local ≡ local_at names accepted.local.ip accepted.local.port
+  pub reads : streams.reader ≡ accepted.reader
+  pub writes : streams.writer ≡ accepted.writer
+  pub shuts : streams.shut ≡ accepted.shut
