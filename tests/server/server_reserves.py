@@ -191,6 +191,8 @@ def nobody(suite):
     ended = subprocess.run(["prlimit", "--nofile=%d" % (few - 1), suite.program] + words, stderr=subprocess.PIPE, timeout=server_runs.WAIT)
     told = [line for line in ended.stderr.decode().splitlines() if "status" not in line and "cause" not in line]
     suite.holds("a server without descriptors", ended.returncode == 111 and told in (["tcpserver: accept fault"], ["tcpserver: cannot listen"]), told)
+    causes = [line for line in ended.stderr.decode().splitlines() if "cause" in line]
+    suite.holds("its cause", len(causes) == 1 and causes[0].endswith(": Too many open files"), causes)
     if os.getuid() == 0:
         command, change = as_user(suite, 1)
         ended = subprocess.run(command + words[1:], stderr=subprocess.PIPE, preexec_fn=change, timeout=server_runs.WAIT)
