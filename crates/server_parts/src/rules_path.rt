@@ -16,7 +16,7 @@ use std::fs::{File, Files};
 /// A file of the system's rules.
 pub type RulesOnDisk = OsFile<SystemFile>;
 
-/// Where the rules file of a server stands. Only its words make one.
+/// Where the rules file of a server stands. Only `by_words` makes one.
 #[derive(Drop)]
 pub struct RulesPath<'a, R> {
     // the system's files

@@ -13,7 +13,7 @@ pub trait Callers: Ledger {
     /// How many events the yard had when the site was made.
     ghost before: { ℕ };
 
-    /// How many connections they let in at most, if there is such a number.
+    /// How many connections the server of the site is to let in, if there is such a number. A site makes no use of it.
     ghost admissions: { Option ℕ };
 }
 

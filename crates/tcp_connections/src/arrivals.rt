@@ -1,7 +1,7 @@
 //! The connections that arrive: where workers wait for them, and the door through which they are let in.
-ghost use Rattle.std.specs.Prelude.{◌≡◌, IfSome, IsTrue};
+ghost use Rattle.std.specs.Prelude.{◌≡◌, ◌⊎◌, IfSome, IsTrue, Some};
 ghost use Rattle.tcp_connections.specs.Admissions.{EndsAtCount, LetsInAtMost};
-ghost use Rattle.tcp_connections.specs.declared.admission.ServeEnd.TheVariants.{AcceptFaults, NoPlaces, Spent};
+ghost use Rattle.tcp_connections.specs.declared.admission.ServeEnd.TheVariants.{AcceptFaults, Count, NoPlaces, Spent};
 
 use crate::accepting::{AcceptError, Accepted, Acceptor};
 use crate::admission::{Admission, ServeEnd};
@@ -133,7 +133,8 @@ impl<A: Acceptor + Drop, Q: Admission> Arrivals<A, Q> {
     /// How the server ended, as `Door::into_end` tells it. The acceptor is dropped, if it is there still.
     pub fn into_end(self) -> (ServeEnd, Q, Errors)
         ensures count { EndsAtCount result.0 Q.count (Q.let_in result.1) }
-        ensures most { LetsInAtMost result.0 Q.count (Q.let_in result.1) }
+        ensures no_more { LetsInAtMost result.0 Q.count (Q.let_in result.1) }
+        ensures reached { Q.count ≡ Some (Q.let_in result.1) → (result.0 ≡ Count) ⊎ (result.0 ≡ Spent) }
         ensures faults { result.0 ≡ AcceptFaults → result.2.count ≡ 100 }
         ensures places { result.0 ≡ NoPlaces → IsTrue (Q.all_retired result.1) }
         ensures spent { result.0 ≡ Spent → IsTrue (Q.is_spent result.1) }

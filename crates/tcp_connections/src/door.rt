@@ -1,6 +1,6 @@
 //! The door: the value under whose lock connections are let in.
 ghost use Rattle.std.specs.Option.{ForSome};
-ghost use Rattle.std.specs.Prelude.{◌≡◌, ◌≢◌, ◌+◌, ◌≤◌, None, Some, true, false, IfSome, IsTrue, min};
+ghost use Rattle.std.specs.Prelude.{◌≡◌, ◌≢◌, ◌⊎◌, ◌+◌, ◌≤◌, None, Some, true, false, IfSome, IsTrue, min};
 ghost use Rattle.tcp_connections.specs.Admissions.{EndsAtCount, LetsInAtMost};
 ghost use Rattle.tcp_connections.specs.declared.admission.ServeEnd.TheVariants.{AcceptFaults, Count, NoPlaces, Spent};
 
@@ -53,7 +53,8 @@ pub struct Errors {
     // how many of them count as faults, and the next pause after one for want of room
     faults: u32,
     pause: Pause,
-    /// The system's number of the last error that came (`errno`), if it had one.
+    /// The system's number of the last error that came (`errno`), if it had one; or that of what there was too little of
+    /// for one connection.
     pub last: Option<i32>,
 }
 
@@ -205,8 +206,10 @@ impl<Q: Admission> Door<Q> {
         }
     }
 
-    /// Ends the server, since there is no memory for it or no thread that serves anybody.
-    pub fn give_up(&mut self) {
+    /// Ends the server, since there is no memory for it or no thread that serves anybody, unless it has ended.
+    pub fn give_up(&mut self)
+        ensures kept { self.old.end ≢ None → self.new.end ≡ self.old.end }
+    {
         if !self.is_over() {
             self.end = Some(ServeEnd::OutOfMemory);
         }
@@ -215,7 +218,8 @@ impl<Q: Admission> Door<Q> {
     /// How the server ended, its admission, and the errors of accepting that came last.
     pub fn into_end(self) -> (ServeEnd, Q, Errors)
         ensures count { EndsAtCount result.0 Q.count (Q.let_in result.1) }
-        ensures most { LetsInAtMost result.0 Q.count (Q.let_in result.1) }
+        ensures no_more { LetsInAtMost result.0 Q.count (Q.let_in result.1) }
+        ensures reached { Q.count ≡ Some (Q.let_in result.1) → (result.0 ≡ Count) ⊎ (result.0 ≡ Spent) }
         ensures errors { result.2 ≡ self.errors }
         ensures faults { result.0 ≡ AcceptFaults → result.2.count ≡ 100 }
         ensures places { result.0 ≡ NoPlaces → IsTrue (Q.all_retired result.1) }

@@ -1,8 +1,8 @@
 //! Workers: each lets one connection after another in, and serves it up to the start of its program or to its end.
-ghost use Rattle.std.specs.Prelude.{◌≡◌, IsTrue};
+ghost use Rattle.std.specs.Prelude.{◌≡◌, ◌⊎◌, IsTrue, Some};
 ghost use Rattle.std.specs.Thread.{IsSend, IsSync};
 ghost use Rattle.tcp_connections.specs.Admissions.{EndsAtCount, FailedToAccept, LetsInAtMost, suffices};
-ghost use Rattle.tcp_connections.specs.declared.admission.ServeEnd.TheVariants.{AcceptFaults, NoPlaces, Spent};
+ghost use Rattle.tcp_connections.specs.declared.admission.ServeEnd.TheVariants.{AcceptFaults, Count, NoPlaces, Spent};
 
 use crate::accepting::{Accepted, Acceptor};
 use crate::admission::{Admission, ServeEnd, Serving};
@@ -79,7 +79,9 @@ where
         requires nobody { V.Entrance.let_in entrance ≡ 0 }
         requires count { V.Entrance.count ≡ count }
         ensures count { EndsAtCount result.0 count (V.Entrance.let_in result.1) }
-        ensures most { LetsInAtMost result.0 count (V.Entrance.let_in result.1) }
+        ensures no_more { LetsInAtMost result.0 count (V.Entrance.let_in result.1) }
+        ensures reached { IsTrue (suffices supply) → count ≡ Some (V.Entrance.let_in result.1)
+            → (result.0 ≡ Count) ⊎ (result.0 ≡ Spent) }
         ensures faults { result.0 ≡ AcceptFaults → FailedToAccept (suffices supply) result.2.count }
         ensures places { result.0 ≡ NoPlaces → IsTrue (V.Entrance.all_retired result.1) }
         ensures spent { result.0 ≡ Spent → IsTrue (V.Entrance.is_spent result.1) }

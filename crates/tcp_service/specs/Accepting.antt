@@ -15,3 +15,4 @@ pub record IsAccepted {S : Type 0} (names : HostNames) (peer : Client) (local : 
   pub reads : streams.reader ≡ accepted.reader
   pub writes : streams.writer ≡ accepted.writer
   pub shuts : streams.shut ≡ accepted.shut
+  pub port : streams.port ≡ accepted.port

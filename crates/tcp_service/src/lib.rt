@@ -8,7 +8,8 @@
 //! says `has_lost` if it is not so. The events of its site are a run, which `whole_yard::laws::service_run` is
 //! about. The life of a connection is one value after another: `Admitted`, `Started`, `Alive`, `Over`. None of the first
 //! three can be let go, and an end can't be told twice. `LoggedAgent` is the agent over which `serve_one` runs. Tested
-//! only: bytes pass through the two pumps of their connection, and no event comes out of turn.
+//! only: bytes pass through the two pumps of their connection, or are dropped once its program reads no more, and no
+//! event comes out of turn.
 #![tactic(auto)]
 
 mod agent;

@@ -16,7 +16,7 @@ const MOST_READS: u64 = 1 << 40;
 
 /// So many bytes of a client are read and dropped once its program reads no more. With unread bytes the end of the
 /// connection would be a reset, by which the client may lose what the program wrote.
-const DROPPED: usize = 64 * 1024;
+const MOST_DROPPED: usize = 64 * 1024;
 
 /// The streams of a connection: three who hold one stream.
 #[derive(Drop)]
@@ -37,6 +37,7 @@ impl<S: Shut + Drop> ClientStreams<S> {
         ensures reads { result.reader ≡ accepted.reader }
         ensures writes { result.writer ≡ accepted.writer }
         ensures shuts { result.shut ≡ accepted.shut }
+        ensures port { result.port ≡ accepted.port }
     {
         ClientStreams {
             port: accepted.port,
@@ -126,8 +127,8 @@ pub(crate) struct Downward<S, O> {
 }
 
 impl<H: Host> Server<'_, H> {
-    /// Passes on what the client sends, until the client ends its stream, or the program reads no more and the
-    /// connection is ended.
+    /// Passes on what the client sends, until the client ends its stream, or the program reads no more. Then it reads on,
+    /// up to the end of the connection or to so many bytes.
     pub(crate) fn pass_up(&self, upward: Upward<H::Holder, H::Input>) {
         let context = &self.context;
         if self.service.recording {
@@ -184,8 +185,8 @@ fn pump_up<S: Read + Drop, I: Write + Drop, T: Tap + Drop>(
 
 // Reads what comes still, up to the end or to so many bytes, and drops it.
 fn drop_rest<S: Read>(reader: &mut S) {
-    let (mut piece, mut left) = ([0u8; 512], DROPPED);
-    for _ in 0..DROPPED {
+    let (mut piece, mut left) = ([0u8; 512], MOST_DROPPED);
+    for _ in 0..MOST_DROPPED {
         match reader.read(&mut piece) {
             Ok(size) if 0 < size && size < left => left -= size,
             _ => return,

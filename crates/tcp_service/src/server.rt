@@ -26,7 +26,7 @@ pub(crate) struct AgentContext<'a, G: AgentGround> {
 }
 
 /// What all connections of a server share: what their agents share, and what serves them. Its starter may be asked for
-/// the programs of connections that are allowed (`may`), and for nothing else.
+/// the programs of connections that are allowed (`may`): code that is generic in the host knows of no others.
 #[derive(Drop)]
 pub(crate) struct Server<'a, H: Host> {
     pub context: AgentContext<'a, H>,

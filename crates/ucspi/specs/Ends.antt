@@ -5,8 +5,8 @@ use Rattle.server_parts.specs.declared.fault.ServerFault.TheVariants as fault
 use Rattle.tcp_connections.specs.declared.admission.ServeEnd.{ServeEnd}
 use Rattle.tcp_connections.specs.declared.admission.ServeEnd.TheVariants.{AcceptFaults, Count, NoPlaces, OutOfMemory, Spent}
 
--- a server that has served all ends well, unless it has lost a connection; a fault of accepting has the system's last
--- number, and no other fault has one
+-- a server that has served all ends well, unless it has lost a connection; a fault of accepting has the last error's
+-- number, or that of what there was too little of, and no other fault has one
 abbrev pub told_of : (has_lost : Bool) → ServeEnd → (accepting : Option ℤ) → Result (Unit {0}) ServerFailure
 told_of true end accepting = Err (record { fault = fault.LostConnection; error = None })
 told_of false Count accepting = Ok tt
