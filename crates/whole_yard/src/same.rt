@@ -8,51 +8,39 @@ use server_events::{Event, is_same_peer};
 pub(crate) fn is_same_event(one: &Event, other: &Event) -> bool
     ensures { IsTrue result ↔ (one.now ≡ other.now) }
 {
-    match (one, other) {
-        (Event::Admitted { serial, peer }, Event::Admitted { serial: n, peer: p }) => {
-            serial == n && is_same_peer(peer, p)
+    match one {
+        Event::Admitted { serial: n, peer: p } => {
+            matches!(other, Event::Admitted { serial, peer } if serial == n && is_same_peer(p, peer))
         }
-        (
-            Event::Opened { serial, there },
-            Event::Opened {
-                serial: n,
-                there: t,
-            },
-        ) => serial == n && there == t,
-        (
-            Event::Decided { serial, decision },
-            Event::Decided {
-                serial: n,
-                decision: d,
-            },
-        ) => { serial == n && is_same_decision(decision, d) }
-        (Event::Started { serial }, Event::Started { serial: n }) => serial == n,
-        (
-            Event::StartFailed { serial, fault },
-            Event::StartFailed {
-                serial: n,
-                fault: f,
-            },
-        ) => serial == n && fault == f,
-        (
-            Event::Ended { serial, status },
-            Event::Ended {
-                serial: n,
-                status: s,
-            },
-        ) => serial == n && status == s,
-        (Event::Retired { serial }, Event::Retired { serial: n }) => serial == n,
-        (
-            Event::Dropped { serial, cause },
-            Event::Dropped {
-                serial: n,
-                cause: c,
-            },
-        ) => serial == n && cause == c,
-        (Event::Stepped { phase }, Event::Stepped { phase: p }) => phase == p,
-        (Event::StepFailed { phase }, Event::StepFailed { phase: p }) => phase == p,
-        (Event::Stop, Event::Stop) => true,
-        _ => false,
+        Event::Opened {
+            serial: n,
+            there: t,
+        } => { matches!(other, Event::Opened { serial, there } if serial == n && there == t) }
+        Event::Decided {
+            serial: n,
+            decision: d,
+        } => {
+            matches!(other, Event::Decided { serial, decision } if serial == n && is_same_decision(d, decision))
+        }
+        Event::Started { serial: n } => matches!(other, Event::Started { serial } if serial == n),
+        Event::StartFailed {
+            serial: n,
+            fault: f,
+        } => { matches!(other, Event::StartFailed { serial, fault } if serial == n && fault == f) }
+        Event::Ended {
+            serial: n,
+            status: s,
+        } => { matches!(other, Event::Ended { serial, status } if serial == n && status == s) }
+        Event::Retired { serial: n } => matches!(other, Event::Retired { serial } if serial == n),
+        Event::Dropped {
+            serial: n,
+            cause: c,
+        } => { matches!(other, Event::Dropped { serial, cause } if serial == n && cause == c) }
+        Event::Stepped { phase: p } => matches!(other, Event::Stepped { phase } if phase == p),
+        Event::StepFailed { phase: p } => {
+            matches!(other, Event::StepFailed { phase } if phase == p)
+        }
+        Event::Stop => matches!(other, Event::Stop),
     }
 }
 
