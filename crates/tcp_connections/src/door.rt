@@ -73,7 +73,10 @@ impl Errors {
     }
 
     /// None came: there is too little for one connection. The system's number says of what.
-    pub(crate) fn of_too_little(supply: &Supply) -> Errors {
+    pub(crate) fn of_too_little(supply: &Supply) -> Errors
+        ensures none { result.count ≡ 0 }
+        ensures told { result.last ≢ None }
+    {
         let lacks = if supply.descriptors < supply.to_begin {
             TOO_MANY_OPEN_FILES
         } else {
@@ -144,14 +147,17 @@ impl<Q: Admission> Door<Q> {
         self.end.is_some() || self.left == Some(0)
     }
 
-    /// Lets a connection in, if it is not refused. It ends the succession of errors.
+    /// Lets a connection in. `None` if it is refused, or nobody is let in any more. If somebody is, it ends the succession
+    /// of errors.
     pub fn admit(&mut self, came: Q::Came) -> Option<Q::Work>
-        requires open { self.old.end ≡ None }
-        requires more { self.old.left ≢ Some 0 }
         ensures its { IfSome result (Q.is_its came) }
-        ensures anew { self.new.errors.count ≡ 0 }
+        ensures anew { self.old.end ≡ None → self.old.left ≢ Some 0 → self.new.errors.count ≡ 0 }
         ensures last { self.new.errors.last ≡ self.old.errors.last }
     {
+        if self.is_over() {
+            drop(came);
+            return None;
+        }
         self.errors.end();
         match self.admission.admit(came) {
             AdmitOutcome::In(work) => {
@@ -168,12 +174,18 @@ impl<Q: Admission> Door<Q> {
         }
     }
 
-    /// No connection came, by this error.
-    pub fn note(&mut self, error: AcceptError)
-        ensures one_more { self.new.errors.count ≡ min 100 (self.old.errors.count + 1) }
-        ensures last { self.new.errors.last ≡ error.number }
+    /// No connection came, by this error. `false` once the server has come to its end: then that is why, and the error is
+    /// not noted.
+    pub fn note(&mut self, error: AcceptError) -> bool
+        ensures one_more { result ≡ true → self.new.errors.count ≡ min 100 (self.old.errors.count + 1) }
+        ensures last { result ≡ true → self.new.errors.last ≡ error.number }
+        ensures not_noted { result ≡ false → self.new ≡ self.old }
     {
+        if self.is_over() {
+            return false;
+        }
         self.errors.add(error);
+        true
     }
 
     /// The pause after an error for want of room.
@@ -197,13 +209,18 @@ impl<Q: Admission> Door<Q> {
         }
     }
 
-    /// Ends the server if all places are retired.
-    pub fn look_for_places(&mut self)
+    /// Ends the server, since all connections are retired, unless it has ended.
+    pub fn end_without_places(&mut self)
         ensures same { self.new.errors ≡ self.old.errors }
     {
-        if !self.is_over() && !self.admission.has_places() {
-            self.end = Some(ServeEnd::NoPlaces);
+        if self.is_over() {
+            return;
         }
+        self.end = if self.admission.has_places() {
+            Some(ServeEnd::OutOfMemory)
+        } else {
+            Some(ServeEnd::NoPlaces)
+        };
     }
 
     /// Ends the server, since there is no memory for it or no thread that serves anybody, unless it has ended.

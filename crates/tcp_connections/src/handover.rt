@@ -22,7 +22,7 @@ enum State<T> {
     Closed,
 }
 
-impl<T> State<T> {
+impl<T: Drop> State<T> {
     // Whether the taker has something to do, or will have.
     fn is_busy(&self) -> bool {
         matches!(self, State::Given(_) | State::Taken)
@@ -31,6 +31,17 @@ impl<T> State<T> {
     // Whether the taker has to wait.
     fn is_awaited(&self) -> bool {
         matches!(self, State::Free | State::Taken)
+    }
+
+    // Takes the value, if there is one.
+    fn take(&mut self) -> Option<T> {
+        match mem::replace(self, State::Taken) {
+            State::Given(value) => Some(value),
+            other => {
+                *self = other;
+                None
+            }
+        }
     }
 }
 
@@ -70,13 +81,7 @@ impl<T: Drop> Handover<T> {
         let mut state = self
             .changed
             .wait_while(rt, self.state.lock(rt), |state| state.is_awaited());
-        match mem::replace(&mut *state, State::Taken) {
-            State::Given(value) => Some(value),
-            other => {
-                *state = other;
-                None
-            }
-        }
+        state.take()
     }
 
     /// Waits until the taker is there and has no value, or no more come.

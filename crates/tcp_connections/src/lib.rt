@@ -10,7 +10,6 @@
 
 pub mod accepting;
 pub mod admission;
-mod arrivals;
 pub mod door;
 mod handover;
 mod means;

@@ -67,6 +67,14 @@ impl Held {
             .saturating_sub(self.awaited.saturating_add(self.retired))
     }
 
+    // Whether there is what one more connection takes.
+    fn has_room(&self, most: u64, supply: Supply) -> bool {
+        self.alive < most
+            && self.descriptors >= supply.to_begin
+            && self.beginning < supply.at_once()
+            && self.left != Some(0)
+    }
+
     // What whoever makes workers has to do, if there may be this many; `None` while it waits.
     fn want(&self, most: u64) -> Option<Want> {
         if self.is_over {
@@ -79,6 +87,14 @@ impl Held {
             return Some(Want::Worker);
         }
         None
+    }
+
+    // A worker is at the door, a new one or one that comes back.
+    fn come_to_door(&mut self, is_new: bool) {
+        if is_new {
+            self.workers = self.workers.saturating_add(1);
+        }
+        self.at_door = self.at_door.saturating_add(1);
     }
 
     // Takes what a connection takes that is waited for.
@@ -94,6 +110,13 @@ impl Held {
         }
     }
 
+    // The connection that was waited for was let in, and its worker leaves the door.
+    fn come_in(&mut self) {
+        self.awaited = self.awaited.saturating_sub(1);
+        self.at_door = self.at_door.saturating_sub(1);
+        self.changes = self.changes.wrapping_add(1);
+    }
+
     // Takes back what a connection has of it, but for its room.
     fn take_back(&mut self, permit: Permit) {
         let Permit {
@@ -106,8 +129,28 @@ impl Held {
         }
     }
 
+    // The connection that was waited for did not come, or was not let in.
+    fn give_back(&mut self, permit: Permit) {
+        self.awaited = self.awaited.saturating_sub(1);
+        self.left = self.left.map(|left| left.saturating_add(1));
+        self.alive = self.alive.saturating_sub(1);
+        self.take_back(permit);
+    }
+
+    // The child of a connection runs: it has no more than so many descriptors from now on.
+    fn begin(&mut self, permit: Permit, to_go_on: u64) -> Permit {
+        let descriptors = permit.descriptors.min(to_go_on);
+        self.take_back(permit);
+        self.descriptors = self.descriptors.saturating_sub(descriptors);
+        Permit {
+            descriptors,
+            begins: false,
+        }
+    }
+
     // A connection is over, or retired: then its room is never free again.
-    fn end(&mut self, is_retired: bool) {
+    fn end(&mut self, permit: Permit, is_retired: bool) {
+        self.take_back(permit);
         self.changes = self.changes.wrapping_add(1);
         if is_retired {
             self.retired = self.retired.saturating_add(1);
@@ -120,21 +163,22 @@ impl Held {
 impl Means {
     /// All of it is free, for at most `most` connections at once and `count` in all. There are no workers yet.
     pub fn new(supply: Supply, most: u64, count: Option<u32>) -> Means {
+        let held = Held {
+            workers: 0,
+            at_door: 0,
+            alive: 0,
+            beginning: 0,
+            awaited: 0,
+            retired: 0,
+            changes: 0,
+            descriptors: supply.descriptors,
+            left: count.map(u64::from),
+            is_over: false,
+        };
         Means {
             supply,
             most,
-            held: Mutex::new(Held {
-                workers: 0,
-                at_door: 0,
-                alive: 0,
-                beginning: 0,
-                awaited: 0,
-                retired: 0,
-                changes: 0,
-                descriptors: supply.descriptors,
-                left: count.map(u64::from),
-                is_over: false,
-            }),
+            held: Mutex::new(held),
             freed: Condvar::new(),
             wanted: Condvar::new(),
         }
@@ -145,43 +189,28 @@ impl Means {
         self.held.lock(rt).workers
     }
 
-    /// A new worker is at the door.
-    pub fn add<R: Wait>(&self, rt: &R) {
-        let mut held = self.held.lock(rt);
-        held.workers = held.workers.saturating_add(1);
-        held.at_door = held.at_door.saturating_add(1);
-    }
-
-    /// A worker comes back to the door.
-    pub fn come_back<R: Wait>(&self, rt: &R) {
-        let mut held = self.held.lock(rt);
-        held.at_door = held.at_door.saturating_add(1);
+    /// A worker is at the door, a new one or one that comes back.
+    pub fn come_to_door<R: Wait>(&self, rt: &R, is_new: bool) {
+        self.held.lock(rt).come_to_door(is_new);
     }
 
     /// Waits at the door until there is what one more connection takes, and takes it. `None` once nobody is let in any
     /// more.
     pub fn take<R: Wait>(&self, rt: &R) -> Option<Permit> {
-        let (most, to_begin, at_once) = (self.most, self.supply.to_begin, self.supply.at_once());
+        let (most, supply) = (self.most, self.supply);
         let mut held = self.freed.wait_while(rt, self.held.lock(rt), |held| {
-            !held.is_over
-                && (held.alive >= most
-                    || held.descriptors < to_begin
-                    || held.beginning >= at_once
-                    || held.left == Some(0))
+            !held.is_over && !held.has_room(most, supply)
         });
         if held.is_over {
             return None;
         }
-        Some(held.take(to_begin))
+        Some(held.take(supply.to_begin))
     }
 
     /// The connection that was waited for did not come, or was not let in. Its worker is at the door still.
     pub fn give_back<R: Wait>(&self, rt: &R, permit: Permit) {
         let mut held = self.held.lock(rt);
-        held.awaited = held.awaited.saturating_sub(1);
-        held.left = held.left.map(|left| left.saturating_add(1));
-        held.alive = held.alive.saturating_sub(1);
-        held.take_back(permit);
+        held.give_back(permit);
         self.free(held);
     }
 
@@ -189,33 +218,24 @@ impl Means {
     /// makes workers is woken.
     pub fn came<R: Wait>(&self, rt: &R) {
         let mut held = self.held.lock(rt);
-        held.awaited = held.awaited.saturating_sub(1);
-        held.at_door = held.at_door.saturating_sub(1);
-        held.changes = held.changes.wrapping_add(1);
+        held.come_in();
         self.free(held);
     }
 
     /// The child of a connection runs: what it took only for its start is free again. Whether it is one of many is told
     /// beside what it has still.
     pub fn began<R: Wait>(&self, rt: &R, permit: Permit) -> (Permit, bool) {
-        let descriptors = permit.descriptors.min(self.supply.to_go_on);
         let mut held = self.held.lock(rt);
-        held.take_back(permit);
-        held.descriptors = held.descriptors.saturating_sub(descriptors);
+        let permit = held.begin(permit, self.supply.to_go_on);
         let is_one_of_many = held.served() > MANY;
         self.free(held);
-        let permit = Permit {
-            descriptors,
-            begins: false,
-        };
         (permit, is_one_of_many)
     }
 
     /// A connection is over, or retired.
     pub fn ended<R: Wait>(&self, rt: &R, permit: Permit, is_retired: bool) {
         let mut held = self.held.lock(rt);
-        held.take_back(permit);
-        held.end(is_retired);
+        held.end(permit, is_retired);
         self.free(held);
     }
 

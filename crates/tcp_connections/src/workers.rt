@@ -1,12 +1,11 @@
 //! Workers: each lets one connection after another in, and serves it up to the start of its program or to its end.
-ghost use Rattle.std.specs.Prelude.{◌≡◌, ◌⊎◌, IsTrue, Some};
+ghost use Rattle.std.specs.Prelude.{◌≡◌, ◌⊎◌, IfSome, IsTrue, Some};
 ghost use Rattle.std.specs.Thread.{IsSend, IsSync};
 ghost use Rattle.tcp_connections.specs.Admissions.{EndsAtCount, FailedToAccept, LetsInAtMost, suffices};
 ghost use Rattle.tcp_connections.specs.declared.admission.ServeEnd.TheVariants.{AcceptFaults, Count, NoPlaces, Spent};
 
-use crate::accepting::{Accepted, Acceptor};
+use crate::accepting::{AcceptError, Accepted, Acceptor};
 use crate::admission::{Admission, ServeEnd, Serving};
-use crate::arrivals::Arrivals;
 use crate::door::{Door, Errors, Pause};
 use crate::handover::Handover;
 use crate::means::{Means, Permit, Want};
@@ -16,7 +15,7 @@ use crate::threads::{
     start_waiting,
 };
 use std::alloc::Global;
-use std::sync::{Arc, Wait};
+use std::sync::{Arc, Mutex, RwLock, Wait};
 use std::thread;
 use std::thread::{Scope, Threads};
 use std::time::Clock;
@@ -34,13 +33,17 @@ pub struct Workers<'a, R, V: Serving, A> {
     rt: &'a R,
     alloc: Global,
     server: &'a V,
-    arrivals: Arrivals<A, V::Entrance>,
+    means: &'a Means,
+    door: Mutex<Door<V::Entrance>>,
+    // none once nobody is let in any more
+    acceptor: RwLock<Option<A>>,
+    // whoever has it waits until there may be descriptors or memory for a connection again
+    scarce: Mutex<()>,
     memory: MemoryLook,
     // whether there is memory for a process in reserve
     has_reserve: bool,
     // whether the worker that was made stays
     came_up: Handover<bool>,
-    means: &'a Means,
     reserve: &'a Reserve,
 }
 
@@ -99,16 +102,19 @@ where
             rt,
             alloc,
             server,
-            arrivals: Arrivals::new(acceptor, Door::new(entrance, count)),
+            means: &means,
+            door: Mutex::new(Door::new(entrance, count)),
+            acceptor: RwLock::new(Some(acceptor)),
+            scarce: Mutex::new(()),
             memory: MemoryLook::new(alloc, supply),
             has_reserve: supply.has_reserve(),
             came_up: Handover::new(),
-            means: &means,
             reserve,
         };
         workers.run();
-        let Workers { arrivals, .. } = workers;
-        arrivals.into_end()
+        let Workers { acceptor, door, .. } = workers;
+        drop(acceptor);
+        door.into_inner().into_end()
     }
 
     // Lets connections in until the server comes to an end, and waits until all that were let in are over.
@@ -124,7 +130,7 @@ where
                 if !workers.has_reserve || !start_waiting(scope, workers.rt, &workers.reserve.end) {
                     workers.reserve.give_back(workers.rt);
                 }
-                workers.arrivals.end_if_over(workers.rt, workers.means);
+                workers.close_if_over();
                 workers.make_workers(scope);
                 workers.reserve.give_back(workers.rt);
             },
@@ -139,8 +145,8 @@ where
             match self.means.wait_for_want(self.rt) {
                 Want::Worker => {}
                 Want::NoPlaces => {
-                    self.arrivals.end_without_places(self.rt, self.means);
-                    return;
+                    self.door.lock(self.rt).end_without_places();
+                    return self.close_if_over();
                 }
                 Want::End => return,
             }
@@ -151,8 +157,8 @@ where
             }
             left = left.saturating_sub(1);
             if left == 0 && !is_made {
-                self.arrivals.give_up(self.rt, self.means);
-                return;
+                self.door.lock(self.rt).give_up();
+                return self.close_if_over();
             }
             self.means.pause(self.rt, pause.next());
         }
@@ -203,7 +209,7 @@ where
             && self.memory.has_connections(number)
             && has_programs(self.rt, self.reserve, beginning)
         {
-            self.means.add(self.rt);
+            self.means.come_to_door(self.rt, true);
             self.came_up.give(self.rt, true);
             self.work(scope, &mut second);
         } else {
@@ -258,16 +264,76 @@ where
                 continue;
             }
             pause = Pause::first();
-            match self.arrivals.accept(self.rt) {
+            match self.accept() {
                 Some(Ok(came)) => self.serve(scope, permit, came, second),
                 Some(Err(error)) => {
                     self.means.give_back(self.rt, permit);
-                    self.arrivals.pause(self.rt, self.means, error);
+                    self.pause(error);
                 }
                 None => self.means.give_back(self.rt, permit),
             }
         }
         self.means.wait_for_ends(self.rt);
+    }
+
+    // Waits for the next connection. `None` once no more come.
+    fn accept(&self) -> Option<Result<Option<Accepted<A::Holder>>, AcceptError>> {
+        Some(self.acceptor.read(self.rt).as_ref()?.accept())
+    }
+
+    // Lets a connection in that came, if its worker has what it takes. `None` if it was refused, or nobody is let in any
+    // more.
+    fn admit(
+        &self,
+        _permit: &Permit,
+        came: Option<Accepted<A::Holder>>,
+    ) -> Option<<V::Entrance as Admission>::Work>
+        ensures its { IfSome result (V.Entrance.is_its came) }
+    {
+        let work = self.door.lock(self.rt).admit(came);
+        if work.is_some() {
+            self.means.came(self.rt);
+        }
+        self.close_if_over();
+        work
+    }
+
+    // Once the server has come to its end, all workers end that wait for a connection, and the acceptor is dropped.
+    fn close_if_over(&self) {
+        let is_over = self.door.lock(self.rt).is_over();
+        if !is_over {
+            return;
+        }
+        self.means.end(self.rt);
+        if let Some(acceptor) = &*self.acceptor.read(self.rt) {
+            acceptor.wake();
+        }
+        let acceptor = self.acceptor.write(self.rt).take();
+        drop(acceptor);
+    }
+
+    // Counts an error of accepting. After one for want of descriptors or memory it waits first. If a connection was
+    // served then, the error is none of the hundred. Once the server has come to its end, the error is that of its end.
+    fn pause(&self, error: AcceptError) {
+        let is_noted = self.door.lock(self.rt).note(error);
+        if !is_noted || error.lacks_room && self.wait_while_scarce() {
+            return;
+        }
+        self.door.lock(self.rt).count_fault();
+        self.close_if_over();
+    }
+
+    // Waits for a pause, or until there may be descriptors and memory again. Whether a connection was served. Workers
+    // wait one after another, so that all together try no more often than one would.
+    fn wait_while_scarce(&self) -> bool {
+        let turn = self.scarce.lock(self.rt);
+        let pause = self.door.lock(self.rt).next_pause();
+        let was_any_served = self.means.wait_for_change(self.rt, pause);
+        if !was_any_served {
+            thread::sleep(self.rt, pause);
+        }
+        drop(turn);
+        was_any_served
     }
 
     // Lets a connection in that came, serves it up to the start of its program, and sees that somebody goes on with it.
@@ -278,7 +344,7 @@ where
         came: Option<Accepted<A::Holder>>,
         second: &mut Option<Second<V::Upward>>,
     ) {
-        let Some(work) = self.arrivals.admit(self.rt, self.means, &permit, came) else {
+        let Some(work) = self.admit(&permit, came) else {
             self.means.give_back(self.rt, permit);
             return;
         };
@@ -294,7 +360,7 @@ where
                 *second = self.go_on(scope, permit, alive, his);
             }
         }
-        self.means.come_back(self.rt);
+        self.means.come_to_door(self.rt, false);
     }
 
     // Goes on with a connection to its end. The second thread is free again then. With one of many a thread goes on, if
