@@ -28,7 +28,7 @@ use tcp_connections::{Accepted, Admission, AdmitOutcome, HostNames};
 
 /// Why a connection was refused.
 #[derive(Drop)]
-pub(crate) enum Refused {
+pub enum Refused {
     /// There was no memory for it.
     OutOfMemory,
     /// Its site has not let it in.
@@ -37,7 +37,7 @@ pub(crate) enum Refused {
 
 /// Evidence that no number is left, of a connection or of an event.
 #[derive(Drop)]
-pub(crate) struct NoNumbers {
+pub struct NoNumbers {
     // this field is private, so that nobody else makes one
     seal: (),
 }
@@ -60,7 +60,7 @@ impl NoNumbers {
 
 /// What a site has said of all connections that follow.
 #[derive(Drop)]
-pub(crate) struct Seen<L: Assumptions> {
+pub struct Seen<L: Assumptions> {
     /// That all places are retired.
     pub retired: Option<AllRetired<L>>,
     /// That no number is left.
@@ -69,7 +69,7 @@ pub(crate) struct Seen<L: Assumptions> {
 
 impl<L: Assumptions> Seen<L> {
     /// Nothing yet.
-    pub(crate) fn new() -> Seen<L> {
+    pub fn new() -> Seen<L> {
         Seen {
             retired: None,
             spent: None,
@@ -85,7 +85,7 @@ type Counted<G> = AdmitOutcome<AdmittedBy<G>, Refusal>;
 /// Lets the connections of an acceptor in, by a caller of a site that makes no other events: its share is how many were
 /// let in.
 #[derive(Drop)]
-pub(crate) struct Entrance<'a, H: Host> {
+pub struct Entrance<'a, H: Host> {
     pub server: &'a Server<'a, H>,
     pub admitter: CallerOf<H>,
     pub seen: Seen<H::Places>,

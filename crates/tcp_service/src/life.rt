@@ -22,7 +22,7 @@ use tcp_connections::{ConnectionLauncher, Shut, wait_in_rounds};
 
 /// A connection that was let in and whose program was not started yet: the right to what comes next. It is made of what
 /// its admission gave, whose event was of its serial number and its client (`own`). It is served, or given up.
-pub(crate) struct Admitted<'a, H: Host> {
+pub struct Admitted<'a, H: Host> {
     pub(crate) server: &'a Server<'a, H>,
     pub(crate) serial: u64,
     pub(crate) place: Place<H::Places>,
@@ -47,7 +47,7 @@ pub(crate) struct Started<'a, H: Host> {
 }
 
 /// A connection whose program runs: the right to its end. One thread may give it to another.
-pub(crate) struct Alive<'a, H: Host> {
+pub struct Alive<'a, H: Host> {
     pub(crate) server: &'a Server<'a, H>,
     pub(crate) serial: u64,
     pub(crate) running: Running<H::Places, H::Job>,
@@ -307,7 +307,7 @@ impl<'a, H: Host> Alive<'a, H> {
 
 /// That a connection is over: the last that was told of it is its end. Only `of` makes one.
 #[derive(Drop)]
-pub(crate) struct Over {
+pub struct Over {
     serial: u64,
     /// Whether its place is never free again.
     pub(crate) is_retired: bool,

@@ -20,7 +20,7 @@ const MOST_DROPPED: usize = 64 * 1024;
 
 /// The streams of a connection: three who hold one stream.
 #[derive(Drop)]
-pub(crate) struct ClientStreams<S> {
+pub struct ClientStreams<S> {
     /// The client's port.
     pub port: u16,
     /// Reads what the client sends.
@@ -109,21 +109,21 @@ impl<S: Shut + Drop> ClientStreams<S> {
 
 /// The stream from a client to its program, through a chain of line wrappers.
 #[derive(Drop)]
-pub(crate) struct Upward<S, I> {
-    pub port: u16,
-    pub reader: S,
-    pub to: I,
-    pub chain: Chain<Wrapper>,
+pub struct Upward<S, I> {
+    pub(crate) port: u16,
+    pub(crate) reader: S,
+    pub(crate) to: I,
+    pub(crate) chain: Chain<Wrapper>,
 }
 
 /// The stream from a program to its client, through a chain of line wrappers.
 #[derive(Drop)]
-pub(crate) struct Downward<S, O> {
-    pub port: u16,
-    pub from: O,
-    pub writer: S,
-    pub shut: S,
-    pub chain: Chain<Wrapper>,
+pub struct Downward<S, O> {
+    pub(crate) port: u16,
+    pub(crate) from: O,
+    pub(crate) writer: S,
+    pub(crate) shut: S,
+    pub(crate) chain: Chain<Wrapper>,
 }
 
 impl<H: Host> Server<'_, H> {

@@ -14,7 +14,7 @@ use tcp_connections::{HostNames, Patience, Reserve, Supply};
 /// What the agents of all connections share: the site with the caller that tells it their events, the plan, the rules
 /// and the log.
 #[derive(Drop)]
-pub(crate) struct AgentContext<'a, G: AgentGround> {
+pub struct AgentContext<'a, G: AgentGround> {
     pub rt: &'a G::Runtime,
     pub alloc: Global,
     pub site: &'a Site<G>,
@@ -28,7 +28,7 @@ pub(crate) struct AgentContext<'a, G: AgentGround> {
 /// What all connections of a server share: what their agents share, and what serves them. Its starter may be asked for
 /// the programs of connections that are allowed (`may`): code that is generic in the host knows of no others.
 #[derive(Drop)]
-pub(crate) struct Server<'a, H: Host> {
+pub struct Server<'a, H: Host> {
     pub context: AgentContext<'a, H>,
     pub starter: &'a H::Starter,
     pub service: &'a Service<'a>,

@@ -3,8 +3,10 @@ ghost use Rattle.std.specs.Prelude.{◌≡◌, true, Ok, Err, IfErr, OnOk};
 ghost use Rattle.ucspi.specs.Ends.{told_of};
 ghost use Rattle.server_yard.specs.Yards.{HasRun};
 
+use crate::serving::Closed;
 use server_parts::{ServerFailure, ServerFault};
-use tcp_service::{Closed, Host, ServeEnd};
+use tcp_connections::ServeEnd;
+use tcp_service::Host;
 
 /// A server has served as many connections as its words say, or all for which there are numbers, and is closed. Only
 /// what such a server gave makes one.

@@ -4,16 +4,22 @@
 //! `main` lends the system, and the tools that start threads, to `ucspi_tools::run_system`. What it lends is a premise,
 //! which its lines state: `docs/internals/PROOFS.md` lists them.
 //!
-//! `tcpserver` stands here too, in `tool`: the service of `tcp_service` over the system's sockets, files and programs, as
-//! its words ask for it. `System` has what it uses of the system, and `OnSystem` is the host of its service. `parts_of`,
-//! `yard_of`, `log_of` and `open_socket` are proved to make what the words ask for (`specs/Asked.antt`), and the calls
-//! behind them take nothing else. That `run_site` lends it to `serve`, and what is printed and exited with, is read here
-//! and tested with real clients. `run_tcpserver` refuses words with a fault, and ends well only by a `Finished`.
+//! `tcpserver` stands here too, in `tool` and `serving`: the service of `tcp_service` over the system's sockets, files
+//! and programs, as its words ask for it. `System` has what it uses of the system, and `OnSystem` is the host of its
+//! service. `parts_of`, `yard_of`, `log_of` and `open_socket` are proved to make what the words ask for
+//! (`specs/Asked.antt`), and the calls behind them take nothing else. That `run_site` lends it to `serve`, and what is
+//! printed and exited with, is read here and tested with real clients. `run_tcpserver` refuses words with a fault, and
+//! ends well only by a `Finished`.
+//!
+//! At the end of a server both callers are back, and as many connections are alive as are retired: `serve` looks at the
+//! last, and says `has_lost` if it is not so. The events of its site are a run, which `whole_yard::laws::service_run` is
+//! about.
 #![tactic(auto)]
 
 mod ends;
 mod no_folder;
 mod rules;
+mod serving;
 mod system;
 mod tool;
 

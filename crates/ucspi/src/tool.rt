@@ -15,12 +15,14 @@ ghost use Rattle.stream_tools.specs.Programs.{text_in, texts_of};
 use crate::ends::{Finished, end_of};
 use crate::no_folder::NoFolder;
 use crate::rules::FolderRules;
+use crate::serving::{CALLERS, serve};
 use crate::system::{OnSystem, System, SystemOf};
 use child_jobs::Plan;
 use dir_calls::Name;
 use fault_hints::{Voice, append_help};
 use rule_lookup::WhenMissing;
 use server_events::Journal;
+use server_log::Log;
 use server_parts::causes::tell_failure;
 use server_parts::limits::supply_for;
 use server_parts::opening::{find_rules, names_of, plan_of, print_port, stand_in};
@@ -45,7 +47,8 @@ use std::thread::Threads;
 use std::time::{Clock, Duration};
 use stream_tools::SearchPath;
 use stream_tools::started::{SystemGiven, texts_of};
-use tcp_service::{CALLERS, Log, Patience, Reserve, Service, serve};
+use tcp_connections::{Patience, Reserve};
+use tcp_service::Service;
 
 /// For so many seconds in succession a client whose connection is pumped may take nothing of what its program left for
 /// it.

@@ -1,7 +1,7 @@
 -- How many a server let in is told of the caller that let them in.
 use Rattle.std.proofs.Common.{◌≡◌, ◌≤◌, Some, rules, subst}
 use Rattle.shared_site.specs.Callers.{caller_share}
-use Rattle.tcp_service.proofs.serving.close.Goals as goal
+use Rattle.ucspi.proofs.serving.close.Goals as goal
 
 pub invariant_of-result-clause-by_count : goal.invariant_of-result-clause-by_count
 invariant_of-result-clause-by_count g c = λ by_count.

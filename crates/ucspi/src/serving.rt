@@ -1,0 +1,186 @@
+//! The server: it lets connections in, each served by threads that are kept, until it comes to an end.
+//!
+//! This stands in the program's crate because whoever names `Workers::serve_through` loads all proofs behind it.
+ghost use Rattle.std.specs.Prelude.{◌≡◌, ◌↔◌, ◌+◌, true, false, IsTrue, is_some, length};
+ghost use Rattle.server_yard.specs.Yards.{HasRun, name_of, yard_books, yard_rules, yard_server};
+ghost use Rattle.shared_site.specs.Callers.{back_lacking, back_share, caller_share};
+ghost use Rattle.tcp_connections.specs.Admissions.{EndsAtCount, FailedToAccept, LetsInAtMost, suffices};
+ghost use Rattle.tcp_connections.specs.declared.admission.ServeEnd.TheVariants.{AcceptFaults, NoPlaces, Spent};
+ghost use Rattle.tcp_service.specs.Agents.{IsFoundFor};
+ghost use Rattle.tcp_service.specs.Lives.{MayStartEach};
+
+use child_jobs::Plan;
+use server_log::Log;
+use shared_site::{BackCallers, CallerOf, Site, YardOf};
+use std::alloc::Global;
+use std::snapshot::Snapshot;
+use std::sync::Mutex;
+use std::sync::ledger::Blank;
+use std::thread::Threads;
+use std::time::Clock;
+use tcp_connections::{Acceptor, Errors, ServeEnd, Workers};
+use tcp_service::{AgentContext, Entrance, Host, Seen, Server, Service};
+
+/// So many callers of a site make the events of a server: one lets connections in, and the other makes the rest.
+pub(crate) const CALLERS: u64 = 2;
+
+/// A server that has come to its end: nobody is let in any more and its threads have ended, both callers of its site
+/// are back and the site is closed. Each connection that is alive still is a retired one, unless one was lost. For want
+/// of places it ended only if its site has said that all are retired, and for want of numbers only if it has said that
+/// none is left.
+#[derive(Drop)]
+pub(crate) struct Closed<H: Host> {
+    /// How it ended.
+    pub end: ServeEnd,
+    /// Whether a connection is alive still that is not retired, though no thread has it.
+    pub has_lost: bool,
+    /// What its site was made of, with all that happened.
+    pub yard: YardOf<H>,
+    /// The errors of accepting that came last in succession.
+    pub errors: Errors,
+    // what its site has said of all connections that would have followed
+    seen: Seen<H::Places>,
+    // the caller that let connections in, and the one that made all other events
+    admitter: Snapshot<CallerOf<H>>,
+    teller: Snapshot<CallerOf<H>>,
+    // no event is of anybody else
+    pub ghost all_back: { (yard_books yard).count
+        ≡ H.Callers.before + (caller_share admitter.value + caller_share teller.value) },
+    pub ghost all_retired: { (has_lost ≡ false)
+        ↔ ((yard_books yard).report.retired ≡ length (yard_server yard).connections) },
+    // how many it let in
+    pub ghost by_count: { EndsAtCount end H.Callers.admissions (caller_share admitter.value) },
+    pub ghost most: { LetsInAtMost end H.Callers.admissions (caller_share admitter.value) },
+    pub ghost by_places: { end ≡ NoPlaces → IsTrue (is_some seen.retired) },
+    pub ghost by_numbers: { end ≡ Spent → IsTrue (is_some seen.spent) },
+    // its events are a run of a server
+    pub ghost ran: { H.is_servers ≡ true → H.Callers.before ≡ 0 → HasRun yard },
+}
+
+/// Serves connections at a site over this yard until it comes to an end, waits until all that were let in are over, and
+/// closes the site.
+///
+/// Of the two callers of the site, with a part each of `parts`, one lets connections in and makes no other events; the
+/// other makes all others. `plan` is what each connection is served by. `starter` starts programs that have what the
+/// service's mode says as their standard input and output; it is asked for nothing but the plan's program, with the
+/// variables of a decision to allow. Each connection opens `rules` for itself, which are the yard's. Once no more
+/// connections are let in, the acceptor is dropped. By faults of accepting the server ends only if the last hundred
+/// answers of the acceptor were errors, or if there was too little for one connection.
+pub(crate) fn serve<'a, H, A>(
+    rt: &'a H::Runtime,
+    alloc: Global,
+    acceptor: A,
+    yard: YardOf<H>,
+    parts: Blank,
+    rules: &'a H::Rules,
+    starter: &'a H::Starter,
+    plan: &'a Plan,
+    service: &'a Service<'a>,
+    log: &'a Mutex<Log<H::Lines>>,
+) -> Closed<H>
+where
+    H: Host + Send + Sync,
+    H::Runtime: Threads + Clock + Sync,
+    H::Places: Send + Sync,
+    H::Callers: Send + Sync,
+    H::File: Send,
+    H::Folder: Send,
+    H::Handle: Send,
+    H::Rules: Sync,
+    H::Lines: Send,
+    H::Holder: Send,
+    H::Starter: Sync,
+    H::Job: Send,
+    H::Input: Send,
+    H::Output: Send,
+    A: Acceptor<Holder = H::Holder> + Send + Sync + Drop,
+    requires parts { (parts.name ≡ H.Callers.name) × (parts.parts ≡ H.Callers.parts) × (parts.parts ≡ CALLERS)
+        × (H.Callers.all ≡ CALLERS) }
+    requires before { H.Callers.before ≡ (yard_books yard).count }
+    requires count { H.Callers.admissions ≡ service.now.limits.count }
+    requires named { H.Rules.named rules.now ≡ name_of (yard_rules yard) }
+    requires may { MayStartEach (IsFoundFor H.Places.met (H.Rules.gives rules.now) H.Handle.opened)
+        H.File.honest H.File.sound plan.now (H.Starter.may starter.now) }
+    ensures faults { result.end ≡ AcceptFaults → FailedToAccept (suffices service.now.supply) result.errors.count }
+{
+    let live = yard.live();
+    let _ = log.lock(rt).status(live);
+    let (site, mut callers) = Site::<H>::new(parts, yard, CALLERS);
+    let (teller, admitter) = (Mutex::new(callers.take()), callers.take());
+    let back = callers.into_back();
+    let server = Server::<H> {
+        context: AgentContext {
+            rt,
+            alloc,
+            site: &site,
+            teller: &teller,
+            rules,
+            plan,
+            log,
+        },
+        starter,
+        service,
+    };
+    let (limits, supply) = (service.limits, service.supply);
+    let entrance = Entrance {
+        server: &server,
+        admitter,
+        seen: Seen::new(),
+    };
+    let (end, entrance, errors) = Workers::<H::Runtime, Server<'_, H>, A>::serve_through(
+        rt,
+        alloc,
+        acceptor,
+        entrance,
+        &server,
+        limits.connections,
+        limits.count,
+        supply,
+        &service.reserve,
+    );
+    let Entrance {
+        server: _,
+        admitter,
+        seen,
+    } = entrance;
+    let teller = teller.into_inner();
+    close(end, errors, seen, site, back, admitter, teller)
+}
+
+// Closes a site with both of its callers, and looks whether each connection that is alive still is retired.
+fn close<H: Host>(
+    end: ServeEnd,
+    errors: Errors,
+    seen: Seen<H::Places>,
+    site: Site<H>,
+    back: BackCallers<H::Callers>,
+    admitter: CallerOf<H>,
+    teller: CallerOf<H>,
+) -> Closed<H>
+    requires places { end ≡ NoPlaces → IsTrue (is_some seen.retired) }
+    requires spent { end ≡ Spent → IsTrue (is_some seen.spent) }
+    requires count { EndsAtCount end H.Callers.admissions (caller_share admitter) }
+    requires most { LetsInAtMost end H.Callers.admissions (caller_share admitter) }
+    requires all { H.Callers.all ≡ H.Callers.parts }
+    requires both { (back_lacking back ≡ 2) × (back_share back ≡ 0) }
+    ensures end { result.end ≡ end }
+    ensures errors { result.errors ≡ errors }
+{
+    let mut back = back;
+    let (admitter_then, teller_then) = (Snapshot::of(&admitter), Snapshot::of(&teller));
+    back.add(admitter);
+    back.add(teller);
+    let Ok(yard) = site.close(back) else {
+        unreachable!()
+    };
+    let has_lost = yard.journal().report().retired != yard.live();
+    Closed {
+        end,
+        has_lost,
+        yard,
+        errors,
+        seen,
+        admitter: admitter_then,
+        teller: teller_then,
+    }
+}
