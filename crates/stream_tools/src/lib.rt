@@ -20,7 +20,7 @@ pub mod started;
 pub mod tools;
 
 pub use between::{Between, BetweenFailure, BetweenFault, Lane, PumpEnds, RunEnd, run_between};
-pub use filter::{FilterFault, add_returns, delete_returns, run_filter};
+pub use filter::{FilterFault, add_returns, delete_returns};
 pub use launcher::{OsJob, OsLauncher};
 pub use search::SearchPath;
 pub use shared::SharedWriter;
