@@ -20,7 +20,7 @@ pub mod shared;
 pub mod started;
 pub mod tools;
 
-pub use between::{Between, BetweenFailure, BetweenFault, Lane, PumpEnds, RunEnd, run_between};
+pub use between::{Between, BetweenFailure, BetweenFault, Lane, RunEnd, run_between};
 pub use filter::{FilterFault, add_returns, delete_returns};
 pub use job::OsJob;
 pub use launcher::OsLauncher;
