@@ -2,7 +2,9 @@
 ghost use Rattle.std.specs.Prelude.{◌≡◌, ⊤, IfOk, true};
 
 use crate::sockets::Holder;
-use child_jobs::{Environment, Exit, Job, NoEnds, NotStarted, Program, StartFault, WaitFault};
+use child_jobs::{
+    Environment, Exit, Job, Launcher, NoEnds, NotStarted, Program, StartFault, WaitFault,
+};
 use libc::net::POLLOUT;
 use libc::types::pollfd;
 use server_words::Mode;
@@ -45,7 +47,7 @@ const LONGER: u32 = 8;
 pub struct ProgramStarter<'a, R> {
     rt: &'a R,
     mode: Mode,
-    launcher: OsLauncher<'a, R>,
+    search: &'a SearchPath,
     reserve: &'a Reserve,
 }
 
@@ -64,7 +66,7 @@ impl<'a, R: Processes + Files + Wait + Clock> ProgramStarter<'a, R> {
         ProgramStarter {
             rt,
             mode,
-            launcher: OsLauncher::new(rt, search),
+            search,
             reserve,
         }
     }
@@ -105,9 +107,10 @@ impl<'a, R: Processes + Files + Wait + Clock> ProgramStarter<'a, R> {
         ensures program { IfOk result (λ job. ⟦<OsJob as Job>⟧.program job ≡ program.now) }
         ensures environment { IfOk result (λ job. ⟦<OsJob as Job>⟧.environment job ≡ environment.now) }
     {
+        let launcher = OsLauncher::new(self.rt, self.search);
         match stream {
-            Some(stream) => self.launcher.start_on(alloc, program, environment, stream),
-            None => self.launcher.start_between(alloc, program, environment),
+            Some(stream) => launcher.start_on(alloc, program, environment, stream),
+            None => launcher.start(alloc, program, environment),
         }
     }
 

@@ -4,7 +4,7 @@ use Rattle.std.specs.Prelude.{Option, Some, None, IsUtf8, not, ◌&&◌, slice_g
 use Rattle.std.specs.Borrow.{Bor}
 use Rattle.std.specs.List.{list_any, before_first, after_first, position_or_len}
 use Rattle.std.proofs.lemmas.Bool.{eqb-true}
-use Rattle.std.proofs.lemmas.List.{append-nil}
+use Rattle.std.proofs.lemmas.List.{append-nil, map-append}
 use Rattle.std.proofs.lemmas.List.Elements.{All-from_get_or}
 use Rattle.std.proofs.lemmas.List.Folds.{list_any_none}
 use Rattle.std.proofs.lemmas.List.Sums.{fails_before_first}
@@ -14,7 +14,6 @@ use Rattle.std.proofs.lemmas.Option.{slice_get_within, get_or_from_slice_get}
 use Rattle.std.specs.declared.alloc.Global.{Global}
 use Rattle.stream_tools.specs.Programs.{texts_of}
 use Rattle.stream_tools.specs.Entries.{is_empty, is_equals, variable_in, variable_of, with_entries, with_found}
-use Rattle.stream_tools.proofs.SearchLemmas.{texts_of-more}
 use Rattle.stream_tools.proofs.WordLemmas.{is_utf8-no_text}
 use Rattle.child_jobs.specs.Variables.{Variable, Variables}
 
@@ -38,7 +37,7 @@ pub word_more : (all : List (List ℕ)) (words after : List (Vec ℕ Global)) (w
     → texts_of after ++ drop (i + 1) all ≡ drop 1 all
 word_more all words after word i so_far at more =
     ap (λ l. texts_of l ++ drop (i + 1) all) more
-    ∙ ap (λ l. l ++ drop (i + 1) all) (texts_of-more words word word.items refl)
+    ∙ ap (λ l. l ++ drop (i + 1) all) (map-append (λ (text : Vec ℕ Global). text.items) words (word ∷ []))
     ∙ append_assoc (texts_of words) (word.items ∷ []) (drop (i + 1) all)
     ∙ ap (λ l. texts_of words ++ l) (sym (drop_found all i word.items (sym at)))
     ∙ so_far

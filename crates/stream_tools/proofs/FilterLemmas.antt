@@ -15,29 +15,6 @@ pub through_nothing : {S : Type 0} (rest : S → List ℕ → List ℕ) → EndW
 through_nothing rest ends [] = refl
 through_nothing rest ends (wrapper ∷ wrappers) = ap (through rest wrappers) (ends wrapper) ∙ through_nothing rest ends wrappers
 
--- ---- all of it at the end
-
-passed_by : (why : Why) (old new : List ℕ → List ℕ) (r r' w w' : Option (List ℕ)) (text given written : List ℕ)
-    → Consumes r r' text → Appends w w' written → Gave why r' old new text given → IsWritten why given written
-    → OnOk (answer_of why) (IfSome r (λ all. Appends w w' (old all)))
-passed_by why.End old new None r' w w' text given written reads writes gave all = tt
-passed_by why.End old new (Some xs) None w w' text given written reads writes gave all = absurd reads
-passed_by why.End old new (Some xs) (Some ys) w w' text given written reads writes gave all =
-    let whole : xs ≡ text = reads ∙ ap (λ l. text ++ l) gave.0 ∙ append-nil text in
-    subst (λ bytes. Appends w w' bytes) (sym all ∙ gave.1 ∙ ap old (sym whole)) writes
-passed_by why.ReadFault old new r r' w w' text given written reads writes gave all = tt
-passed_by why.WriteFault old new r r' w w' text given written reads writes gave all = tt
-passed_by why.ZeroWrite old new r r' w w' text given written reads writes gave all = tt
-passed_by why.ReadsOver old new r r' w w' text given written reads writes gave all = tt
-passed_by why.Failed old new r r' w w' text given written reads writes gave all = tt
-passed_by why.OutOfMemory old new r r' w w' text given written reads writes gave all = tt
-
-pub passed : {old new : Ends} {tap : Shown} {steps : ℕ} {end : PumpEnd} {answer : Result (Unit {0}) FilterFault} → answer ≡ answer_of end.why → Pumped old new tap steps end
-    → OnOk answer (IfSome old.reader (λ all. Appends old.writer new.writer (old.chain all)))
-passed {old} {new} {tap} {steps} {end} is p =
-    subst (λ a. OnOk a (IfSome old.reader (λ all. Appends old.writer new.writer (old.chain all)))) (sym is)
-    (passed_by end.why old.chain new.chain old.reader new.reader old.writer new.writer p.text p.given p.written p.reads p.writes p.gave p.all)
-
 -- ---- how far it came
 
 -- what the chain gave before its last call, and what it gives after

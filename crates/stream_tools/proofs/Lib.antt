@@ -1,5 +1,4 @@
 pub mod EntryLemmas
 pub mod FilterLemmas
 pub mod LaneLemmas
-pub mod SearchLemmas
 pub mod WordLemmas

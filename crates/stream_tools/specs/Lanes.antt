@@ -29,49 +29,53 @@ use Rattle.stream_tools.specs.declared.between.BetweenFault.{BetweenFault}
 use Rattle.stream_tools.specs.declared.between.BetweenFault.TheVariants.{CannotStart, OutOfMemory}
 use Rattle.stream_tools.specs.declared.between.Lane.{Lane}
 
+-- what a wrapper of a lane will write
+abbrev pub fixing : Writing FixCr
+fixing wrapper = fixed_from wrapper.after_cr
+
 -- From this reader a pump ran to this writer, through this chain and under the eyes of this tap, and ended so; it left the four as they are now. It
 -- read until one of its ends ended, or 2^40 times. The functions are those of `ends_of` and `shown_to`.
-pub record Ran {R W S T : Type 0}
-    (remaining : KnownBytes R) (contents : KnownBytes W) (rest : Writing S)
+pub record Ran {R W T : Type 0}
+    (remaining : KnownBytes R) (contents : KnownBytes W)
     (watches : T → Way) (sees : T → List ℕ → T → Type 0) (ends : T → T → Type 0)
-    (reader : R) (writer : W) (chain : Chain S) (tap : T) (end : PumpEnd) : Type 0 where
+    (reader : R) (writer : W) (chain : Chain FixCr) (tap : T) (end : PumpEnd) : Type 0 where
   pub reader-now : R
   pub writer-now : W
-  pub chain-now : Chain S
+  pub chain-now : Chain FixCr
   pub tap-now : T
   pub reads : ℕ
-  pub pumped : Pumped (ends_of remaining contents rest reader writer chain)
-      (ends_of remaining contents rest reader-now writer-now chain-now)
+  pub pumped : Pumped (ends_of remaining contents fixing reader writer chain)
+      (ends_of remaining contents fixing reader-now writer-now chain-now)
       (shown_to watches sees ends tap tap-now) reads end
   pub over : end.why ≡ ReadsOver → reads ≡ 2 ^ 40
   pub ready : has_failed chain ≡ false → end.why ≢ Failed
 
 -- The input of a program: a pump ran from the stream of this lane to a pipe of the program, and ended so. The stream was watched as `watch`, whose
 -- calls the first function tells of, says of that pipe; the other functions are those of `Ran`.
-pub record Fed {F I P S T : Type 0} (calls : Once F (Bor P × Unit {0}) (Option Watch))
-    (remaining : KnownBytes I) (contents : KnownBytes P) (rest : Writing S)
+pub record Fed {F I P T : Type 0} (calls : Once F (Bor P × Unit {0}) (Option Watch))
+    (remaining : KnownBytes I) (contents : KnownBytes P)
     (watches : T → Way) (sees : T → List ℕ → T → Type 0) (ends : T → T → Type 0)
-    (watch : F) (lane : Lane I S T) (end : PumpEnd) : Type 0 where
+    (watch : F) (lane : Lane I T) (end : PumpEnd) : Type 0 where
   pub to : P
   pub watched : Watched I
   pub reader : reader_of watched ≡ lane.stream
   pub under : FnOnceReturnsAt calls watch to (watch_of watched)
-  pub ran : Ran (λ w. left_under (watch_of w) (remaining (reader_of w))) contents rest watches sees ends watched to lane.chain lane.tap end
+  pub ran : Ran (λ w. left_under (watch_of w) (remaining (reader_of w))) contents watches sees ends watched to lane.chain lane.tap end
 
 -- The output of a program: a pump ran from a pipe of the program to the stream of this lane, and ended so.
-pub record Drained {P O S T : Type 0}
-    (remaining : KnownBytes P) (contents : KnownBytes O) (rest : Writing S)
+pub record Drained {P O T : Type 0}
+    (remaining : KnownBytes P) (contents : KnownBytes O)
     (watches : T → Way) (sees : T → List ℕ → T → Type 0) (ends : T → T → Type 0)
-    (lane : Lane O S T) (end : PumpEnd) : Type 0 where
+    (lane : Lane O T) (end : PumpEnd) : Type 0 where
   pub from : P
-  pub ran : Ran remaining contents rest watches sees ends from lane.stream lane.chain lane.tap end
+  pub ran : Ran remaining contents watches sees ends from lane.stream lane.chain lane.tap end
 
 -- a lane over this stream, in which each line gets a carriage return where it has none
-abbrev pub IsFixing : {E : Type 0} → E → Lane E FixCr NoTap → Type 0
-IsFixing stream lane = (lane.stream ≡ stream) × (through (λ (wrapper : FixCr). fixed_from wrapper.after_cr) (wrappers_of lane.chain) ≡ fixed)
+abbrev pub IsFixing : {E : Type 0} → E → Lane E NoTap → Type 0
+IsFixing stream lane = (lane.stream ≡ stream) × (through fixing (wrappers_of lane.chain) ≡ fixed)
 
 -- a lane over this stream, which changes nothing and is recorded with this number and way
-pub record IsRecording {E W : Type 0} (number : ℕ) (way : Way) (errors : W) (stream : E) (lane : Lane E FixCr (Recorder W)) : Type 0 where
+pub record IsRecording {E W : Type 0} (number : ℕ) (way : Way) (errors : W) (stream : E) (lane : Lane E (Recorder W)) : Type 0 where
   pub over : lane.stream ≡ stream
   pub plain : wrappers_of lane.chain ≡ []
   pub numbered : number_of lane.tap ≡ number

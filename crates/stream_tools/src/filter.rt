@@ -2,7 +2,6 @@
 ghost use Rattle.std.specs.Prelude.{◌≡◌, [], ◌∷◌, IfOk, IfSome, OnOk};
 ghost use Rattle.std.specs.Io.KnownBytes.{Appends};
 ghost use Rattle.byte_streams.specs.Chains.{wrappers_of};
-ghost use Rattle.byte_streams.specs.Wrappers.{through};
 ghost use Rattle.byte_streams.specs.Wrapped.{added, deleted};
 ghost use Rattle.stream_tools.specs.Filters.{Came, EndWithNothing, answer_of};
 ghost use Rattle.stream_tools.specs.declared.filter.FilterFault.TheVariants.{OutOfMemory};
@@ -46,23 +45,22 @@ impl From<AllocError> for FilterFault {
     }
 }
 
-/// Passes a stream through a chain, to its end.
+/// Passes a stream through a wrapper that writes nothing more at the end of a text, to its end.
 ///
 /// # Errors
 /// What was read until the fault was passed on, as far as it was written.
-pub fn run_filter<R: Read, W: Write, S: LineWrapper>(
+fn pass_on<R: Read, W: Write, S: LineWrapper + Drop>(
     alloc: Global,
     reader: &mut R,
     writer: &mut W,
-    chain: &mut Chain<S>,
+    wrapper: S,
 ) -> Result<(), FilterFault>
-    ensures passed { OnOk result (IfSome (R.remaining reader.old) (λ text.
-        Appends (W.contents writer.old) (W.contents writer.new)
-        (through S.rest (wrappers_of chain.old) text))) }
-    ensures came { EndWithNothing S.rest → Came (through S.rest (wrappers_of chain.old)) (R.remaining reader.old)
-        (R.remaining reader.new) (W.contents writer.old) (W.contents writer.new) result }
+    requires { EndWithNothing S.rest }
+    ensures { Came (S.rest wrapper) (R.remaining reader.old) (R.remaining reader.new)
+        (W.contents writer.old) (W.contents writer.new) result }
 {
-    let end = pump(alloc, reader, writer, chain, &mut NoTap, MOST_READS);
+    let mut chain = chain_of(alloc, wrapper)?;
+    let end = pump(alloc, reader, writer, &mut chain, &mut NoTap, MOST_READS);
     answer_of(end.why)
 }
 
@@ -92,8 +90,7 @@ pub fn add_returns<R: Read, W: Write>(
     ensures came { Came added (R.remaining reader.old) (R.remaining reader.new)
         (W.contents writer.old) (W.contents writer.new) result }
 {
-    let mut chain = chain_of(alloc, AddCr)?;
-    run_filter(alloc, reader, writer, &mut chain)
+    pass_on(alloc, reader, writer, AddCr)
 }
 
 /// `delcr`: passes a text on without one carriage return at the end of each line and of the last part, to its end.
@@ -110,8 +107,7 @@ pub fn delete_returns<R: Read, W: Write>(
     ensures came { Came deleted (R.remaining reader.old) (R.remaining reader.new)
         (W.contents writer.old) (W.contents writer.new) result }
 {
-    let mut chain = chain_of(alloc, DelCr::new())?;
-    run_filter(alloc, reader, writer, &mut chain)
+    pass_on(alloc, reader, writer, DelCr::new())
 }
 
 /// A chain of one wrapper.

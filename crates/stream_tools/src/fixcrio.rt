@@ -1,14 +1,13 @@
 //! `fixcrio`: a program both of whose streams get carriage returns.
 ghost use Rattle.std.specs.Prelude.{◌≡◌, ◌⊎◌, IfErr, IfOk, IsTrue};
 ghost use Rattle.byte_streams.specs.declared.tap.NoTap.{NoTap};
-ghost use Rattle.byte_streams.specs.declared.wrappers.FixCr.{FixCr};
 ghost use Rattle.stream_tools.specs.Lanes.{Drained, Fed, IsFixing, IsNotStarted, IsRunOf};
 ghost use Rattle.stream_tools.specs.declared.between.BetweenFault.TheVariants.{OutOfMemory};
 ghost use Rattle.stream_tools.specs.declared.between.Lane.{Lane};
 
 use crate::between::{Between, BetweenFailure, Lane, RunEnd, run_between};
 use crate::filter::chain_of;
-use byte_streams::{FixCr, LineWrapper, NoTap, Tap, Watch};
+use byte_streams::{FixCr, NoTap, Tap, Watch};
 use child_jobs::{Environment, Job, Launcher, Program};
 use std::alloc::{AllocError, Global};
 use std::io::{Read, Write};
@@ -30,20 +29,18 @@ pub fn fix_between<H, B, F>(
 where
     H: Threads + Wait + Sync,
     B: Between,
-    B::Reader: Send,
-    B::Input: Send,
     B::Launcher: Drop,
     F: FnOnce(&B::Input) -> Option<Watch> + Drop,
     requires watch { F.IsAlwaysCallable watch }
     requires may { IsTrue (B.Launcher.may launcher run.0.now run.1.now) }
     ensures ended { IfOk result (λ end. (job : B.Job)
         × IsRunOf B.Job.program B.Job.environment run.entry.0.now run.entry.1.now job × B.Job.ended job end.status) }
-    ensures input { IfOk result (λ end. (lane : Lane B.Reader FixCr NoTap) × IsFixing streams.0 lane
-        × Fed F.FnOnce B.Reader.remaining B.Input.contents ⟦<FixCr as LineWrapper>⟧.rest
-        ⟦<NoTap as Tap>⟧.watches ⟦<NoTap as Tap>⟧.sees ⟦<NoTap as Tap>⟧.ends watch lane end.pumps.input) }
-    ensures output { IfOk result (λ end. (lane : Lane B.Writer FixCr NoTap) × IsFixing streams.1 lane
-        × Drained B.Output.remaining B.Writer.contents ⟦<FixCr as LineWrapper>⟧.rest
-        ⟦<NoTap as Tap>⟧.watches ⟦<NoTap as Tap>⟧.sees ⟦<NoTap as Tap>⟧.ends lane end.pumps.output) }
+    ensures input { IfOk result (λ end. (lane : Lane B.Reader NoTap) × IsFixing streams.0 lane
+        × Fed F.FnOnce B.Reader.remaining B.Input.contents
+        ⟦<NoTap as Tap>⟧.watches ⟦<NoTap as Tap>⟧.sees ⟦<NoTap as Tap>⟧.ends watch lane end.input) }
+    ensures output { IfOk result (λ end. (lane : Lane B.Writer NoTap) × IsFixing streams.1 lane
+        × Drained B.Output.remaining B.Writer.contents
+        ⟦<NoTap as Tap>⟧.watches ⟦<NoTap as Tap>⟧.sees ⟦<NoTap as Tap>⟧.ends lane end.output) }
     ensures fault { IfErr result (λ why. (why.fault ≡ OutOfMemory)
         ⊎ (IsNotStarted B.Launcher.refuses launcher run.entry.0.now run.entry.1.now why
         ⊎ ((job : B.Job) × IsRunOf B.Job.program B.Job.environment run.entry.0.now run.entry.1.now job))) }
@@ -51,11 +48,11 @@ where
     let (input, output) = streams;
     let input = fix_lane(alloc, input)?;
     let output = fix_lane(alloc, output)?;
-    run_between::<H, B, _, _, F>(rt, alloc, launcher, run, (input, output), watch)
+    run_between::<H, B, _, F>(rt, alloc, launcher, run, (input, output), watch)
 }
 
 /// A lane over a stream, in which each line gets a carriage return where it has none.
-fn fix_lane<E: Drop>(alloc: Global, stream: E) -> Result<Lane<E, FixCr, NoTap>, AllocError>
+fn fix_lane<E: Drop>(alloc: Global, stream: E) -> Result<Lane<E, NoTap>, AllocError>
     ensures { IfOk result (IsFixing stream) }
 {
     let chain = chain_of(alloc, FixCr::new())?;

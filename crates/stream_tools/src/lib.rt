@@ -11,6 +11,7 @@
 pub mod between;
 pub mod filter;
 pub mod fixcrio;
+pub mod job;
 pub mod launcher;
 pub mod process;
 pub mod recordio;
@@ -19,9 +20,10 @@ pub mod shared;
 pub mod started;
 pub mod tools;
 
-pub use between::{Between, BetweenFailure, BetweenFault, Lane, PumpEnds, RunEnd, run_between};
-pub use filter::{FilterFault, add_returns, delete_returns, run_filter};
-pub use launcher::{OsJob, OsLauncher};
+pub use between::{Between, BetweenFailure, BetweenFault, Lane, RunEnd, run_between};
+pub use filter::{FilterFault, add_returns, delete_returns};
+pub use job::OsJob;
+pub use launcher::OsLauncher;
 pub use search::SearchPath;
 pub use shared::SharedWriter;
 pub use tools::{run_fixcrio, run_recordio};

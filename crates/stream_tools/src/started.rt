@@ -61,10 +61,7 @@ impl<'a, E: Env> Given for SystemGiven<'a, E> {
 pub fn program_path<G: Given>(alloc: Global, given: &G) -> Result<Vec<u8>, AllocError>
     ensures all { IsTrue G.honest → IfOk result (λ path. path.items ≡ path_among (G.words given.now)) }
 {
-    match given.word(alloc, 0)? {
-        Some(path) => Ok(path),
-        None => Ok(Vec::new(alloc)),
-    }
+    Ok(given.word(alloc, 0)?.unwrap_or(Vec::new(alloc)))
 }
 
 /// All words of the command line after the path, each as the bytes that it is.
@@ -170,18 +167,9 @@ fn text_of(alloc: Global, word: &[u8]) -> Result<String, AllocError>
     }
 }
 
-/// The value of a variable of this process, as the bytes that it is; `None` where it was given none of this name.
-pub fn own_variable<E: Env>(
-    alloc: Global,
-    env: &E,
-    name: &str,
-) -> Result<Option<Vec<u8>>, AllocError> {
-    told(alloc, env, Entry::Named(name))
-}
-
 /// What a program is told, by its position or its name.
 #[derive(Clone, Copy)]
-enum Entry<'a> {
+pub(crate) enum Entry<'a> {
     /// A word of the command line, from 0, which is the program's name.
     Word(usize),
     /// An entry of its environment, from 0.
@@ -190,12 +178,21 @@ enum Entry<'a> {
     Named(&'a str),
 }
 
-/// What stands at a position, in a buffer that grows until it fits; `None` where there is nothing.
-fn told<E: Env>(alloc: Global, env: &E, entry: Entry<'_>) -> Result<Option<Vec<u8>>, AllocError> {
+/// What this process was told there, as the bytes that it is, in a buffer that grows until it fits; `None` where there is nothing.
+pub(crate) fn told<E: Env>(
+    alloc: Global,
+    env: &E,
+    entry: Entry<'_>,
+) -> Result<Option<Vec<u8>>, AllocError> {
     let mut size = 256usize;
     for _ in 0..40 {
         let mut buffer = vec![in alloc; 0u8; size]?;
-        match fill(env, entry, buffer.as_mut_slice()) {
+        let filled = match entry {
+            Entry::Word(position) => env.arg(position, &mut buffer),
+            Entry::Variable(position) => env.var_at(position, &mut buffer),
+            Entry::Named(name) => env.var(name, &mut buffer),
+        };
+        match filled {
             Ok(len) => {
                 buffer.truncate(len);
                 return Ok(Some(buffer));
@@ -205,13 +202,4 @@ fn told<E: Env>(alloc: Global, env: &E, entry: Entry<'_>) -> Result<Option<Vec<u
         }
     }
     Err(AllocError)
-}
-
-/// Puts what stands at a position into a buffer.
-fn fill<E: Env>(env: &E, entry: Entry<'_>, buffer: &mut [u8]) -> Result<usize, FillError> {
-    match entry {
-        Entry::Word(position) => env.arg(position, buffer),
-        Entry::Variable(position) => env.var_at(position, buffer),
-        Entry::Named(name) => env.var(name, buffer),
-    }
 }

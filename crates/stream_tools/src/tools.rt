@@ -1,7 +1,8 @@
 //! The tools over the standard streams and the system's programs.
 use crate::between::{Between, BetweenFailure};
 use crate::fixcrio::fix_between;
-use crate::launcher::{OsJob, OsLauncher};
+use crate::job::OsJob;
+use crate::launcher::OsLauncher;
 use crate::recordio::record_between;
 use crate::search::SearchPath;
 use crate::shared::SharedWriter;
@@ -29,7 +30,10 @@ struct OverSystem<'a, R> {
     system: PhantomData<&'a R>,
 }
 
-impl<'a, R: Input + Print + Processes + Clock + Files> Between for OverSystem<'a, R> {
+impl<'a, R: Input + Print + Processes + Clock + Files + Sync> Between for OverSystem<'a, R>
+where
+    R::Reader: Send,
+{
     type Reader = Patient<'a, R, R::Reader>;
 
     type Writer = Patient<'a, R, Printer<'a, R>>;
@@ -71,19 +75,8 @@ where
     R: Env + Input + Print + AllocGlobal + Processes + Threads + Wait + Sync + Clock + Net + Files,
     R::Reader: Send,
 {
-    let told = ToldRun::by_words(rt.alloc(), rt, words)?;
-    let status = fix_told(rt, &told);
-    drop(told);
-    status
-}
-
-/// `fixcrio` of a program that was told, over the standard streams.
-fn fix_told<R>(rt: &R, told: &ToldRun) -> Result<Status, BetweenFailure>
-where
-    R: Input + Print + AllocGlobal + Processes + Threads + Wait + Sync + Clock + Net + Files,
-    R::Reader: Send,
-{
     let alloc = rt.alloc();
+    let told = ToldRun::by_words(alloc, rt, words)?;
     let launcher = OsLauncher::new(rt, &told.search);
     let run = (&told.program, &told.variables);
     let streams = (
@@ -92,8 +85,9 @@ where
     );
     let end = fix_between::<_, OverSystem<'_, R>, _>(rt, alloc, launcher, run, streams, |pipe| {
         Watch::new(alloc, rt, STANDARD_INPUT, pipe.as_raw_fd())
-    })?;
-    Ok(end.status)
+    });
+    drop(told);
+    Ok(end?.status)
 }
 
 /// Runs a program, and records what goes both ways on `errors`.
@@ -106,42 +100,29 @@ where
     R::Reader: Send,
     E: Write + Send + Drop,
 {
-    let errors = Mutex::new(errors);
-    let status = match ToldRun::by_words(rt.alloc(), rt, words) {
-        Ok(told) => {
-            let status = record_told(rt, &errors, &told);
-            drop(told);
-            status
-        }
-        Err(error) => Err(BetweenFailure::from(error)),
-    };
-    drop(errors);
-    status
-}
-
-/// `recordio` of a program that was told, over the standard streams.
-fn record_told<R, E>(rt: &R, errors: &Mutex<E>, told: &ToldRun) -> Result<Status, BetweenFailure>
-where
-    R: Input + Print + AllocGlobal + Processes + Threads + Wait + Sync + Clock + Net + Files,
-    R::Reader: Send,
-    E: Write + Send + Drop,
-{
     let alloc = rt.alloc();
+    let told = ToldRun::by_words(alloc, rt, words)?;
     let launcher = OsLauncher::new(rt, &told.search);
     let run = (&told.program, &told.variables);
+    let errors = Mutex::new(errors);
+    let writers = (
+        SharedWriter::new(rt, &errors),
+        SharedWriter::new(rt, &errors),
+    );
     let streams = (
         Patient::new(rt, rt.reader()),
         Patient::new(rt, io::writer(rt)),
     );
-    let errors = (SharedWriter::new(rt, errors), SharedWriter::new(rt, errors));
     let end = record_between::<_, OverSystem<'_, R>, _, _>(
         rt,
         alloc,
         launcher,
         run,
         streams,
-        errors,
+        writers,
         |pipe| { Watch::new(alloc, rt, STANDARD_INPUT, pipe.as_raw_fd()) },
-    )?;
-    Ok(end.status)
+    );
+    drop(told);
+    drop(errors);
+    Ok(end?.status)
 }

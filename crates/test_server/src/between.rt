@@ -1,7 +1,7 @@
 //! A program between two pumps.
 use crate::answer::Answer;
 use crate::scripts::{ScriptedJob, Scripts, ServedTally};
-use byte_streams::{Chain, FixCr, NoTap};
+use byte_streams::{Chain, NoTap};
 use child_jobs::{Environment, Program, Status};
 use std::alloc::Global;
 use std::marker::PhantomData;
@@ -19,7 +19,7 @@ struct Scripted<'a, R> {
     program: PhantomData<&'a R>,
 }
 
-impl<'a, R: Wait + Clock> Between for Scripted<'a, R> {
+impl<'a, R: Wait + Clock + Sync> Between for Scripted<'a, R> {
     type Reader = &'static [u8];
 
     type Writer = SharedWriter<'a, R, Vec<u8>>;
@@ -76,7 +76,7 @@ fn run<R: Threads + Wait + Clock + Sync>(
     };
     let program = Program::new(String::new(alloc), Vec::new(alloc));
     let variables = Environment::new(alloc);
-    let input: Lane<_, FixCr, _> = Lane {
+    let input = Lane {
         stream: SENT,
         chain: Chain::new(alloc, Vec::new(alloc)),
         tap: NoTap,
@@ -87,7 +87,7 @@ fn run<R: Threads + Wait + Clock + Sync>(
         tap: NoTap,
     };
     let run = (&program, &variables);
-    let end = run_between::<_, Scripted<'_, R>, _, _, _>(
+    let end = run_between::<_, Scripted<'_, R>, _, _>(
         rt,
         alloc,
         launcher,

@@ -1,0 +1,129 @@
+//! Children of this process, waited for until they have ended, and killed.
+ghost use Rattle.std.specs.Prelude.{◌≡◌, ◌↔◌, ◌⊎◌, ℕ, pos, is_some, ⊤, IsSome, Some};
+ghost use Rattle.std.specs.Process.{exit_code, exit_signal};
+ghost use Rattle.child_jobs.specs.declared.outcome.Status.TheVariants.{Code, Signal};
+
+use child_jobs::{Environment, Exit, Job, NoEnds, Program, Status, WaitFault};
+use std::os::unix::process::ExitStatusExt;
+use std::process::{ChildStdin, ChildStdout, ExitStatus};
+use std::snapshot::Snapshot;
+
+/// A child of this process, and the ends of its pipes until they are given. The language lets nobody drop it: it is waited for, or abandoned.
+pub struct OsJob {
+    pub(crate) number: i32,
+    // whether it was waited for, by this value or by other code, so that its number may be another's
+    pub(crate) gone: bool,
+    pub(crate) ends: Option<(ChildStdin, ChildStdout)>,
+    pub(crate) program: Snapshot<Program>,
+    pub(crate) environment: Snapshot<Environment>,
+}
+
+impl Job for OsJob {
+    type Input = ChildStdin;
+
+    type Output = ChildStdout;
+
+    ghost program = { λ job. job.program.value };
+
+    ghost environment = { λ job. job.environment.value };
+
+    ghost has_ends = { λ job. is_some job.ends };
+
+    ghost killed = { λ _ _ _. ⊤ };
+
+    ghost ended = { λ _ _. ⊤ };
+
+    ghost refused_wait = { λ _ _ _. ⊤ };
+
+    fn ends(&mut self) -> Result<(ChildStdin, ChildStdout), NoEnds> {
+        self.ends.take().ok_or(NoEnds)
+    }
+
+    fn kill(&mut self) -> Result<(), WaitFault> {
+        if self.gone || os::kill_child(self.number) < 0 {
+            return Err(WaitFault::Failed);
+        }
+        Ok(())
+    }
+
+    fn process(&self) -> Option<u32> {
+        u32::try_from(self.number).ok()
+    }
+
+    fn wait(mut self) -> Result<Exit, (OsJob, WaitFault)> {
+        // a program that waits for input could not end
+        drop(self.ends.take());
+        match wait_for_end(self.number, &mut self.gone) {
+            Ok(exit) => {
+                self.abandon();
+                Ok(exit)
+            }
+            Err(fault) => Err((self, fault)),
+        }
+    }
+
+    fn abandon(self) {
+        let OsJob {
+            number: _,
+            gone: _,
+            ends: _,
+            program: _,
+            environment: _,
+        } = self;
+    }
+}
+
+/// Waits until the child of this number has exited or was killed, and tells which, with the signal. One that is stopped is waited for, until
+/// it goes on and ends. `gone` is whether it was waited for before, and then whether it is now.
+///
+/// # Errors
+/// `Failed` where the system refused it, as where other code has waited for the child; `OutOfMemory`.
+fn wait_for_end(number: i32, gone: &mut bool) -> Result<Exit, WaitFault> {
+    for _ in 0..u64::MAX {
+        if let Some(exit) = wait_once(number, gone)? {
+            return Ok(exit);
+        }
+    }
+    Err(WaitFault::Failed)
+}
+
+/// Waits for the next that the system tells of the child; `None` where that is not its end.
+fn wait_once(number: i32, gone: &mut bool) -> Result<Option<Exit>, WaitFault> {
+    if *gone || number <= 0 {
+        return Err(WaitFault::Failed);
+    }
+    let mut bits = 0;
+    if unsafe { libc::waitpid(number, &mut bits, 0) } < 0 {
+        let fault = os::errno();
+        *gone = fault == libc::ECHILD;
+        return match fault {
+            libc::EINTR => Ok(None),
+            libc::ENOMEM => Err(WaitFault::OutOfMemory),
+            _ => Err(WaitFault::Failed),
+        };
+    }
+    let ended = ExitStatus::from_raw(bits);
+    let status = status_of(ended);
+    *gone = status.is_some();
+    let signal = match ended.signal() {
+        Some(signal) => u32::try_from(signal).ok(),
+        None => None,
+    };
+    match status {
+        Some(status) => Ok(Some(Exit { status, signal })),
+        None => Ok(None),
+    }
+}
+
+/// How a child ended. `None` where it did not: the system also tells of a child that is stopped, as under a debugger.
+fn status_of(status: ExitStatus) -> Option<Status>
+    ensures ended { IsSome result ↔ (IsSome (exit_code status) ⊎ IsSome (exit_signal status)) }
+    ensures signal { (result ≡ Some Signal) ↔ IsSome (exit_signal status) }
+    ensures code { (n : ℕ) → exit_code status ≡ Some (pos n) → result ≡ Some (Code n) }
+{
+    match (status.code(), status.signal()) {
+        (Some(code), _) => Some(Status::Code((code & 255) as u8)),
+        (None, Some(_)) => Some(Status::Signal),
+        (None, None) => None,
+    }
+}
