@@ -1,8 +1,8 @@
 //! The program `ucspi`: the name by which it was called, or its first word, names a tool. Where there is none it is
 //! `rulesim`, or at a terminal it lists the tools.
 //!
-//! `main` lends the system, and the tools that start threads, to `ucspi_tools::run_system`. What it lends is a premise,
-//! which its lines state: `docs/internals/PROOFS.md` lists them.
+//! `main` lends the system, and the tools that start threads, to `run_system`, and that all tools as calls to
+//! `ucspi_tools::run_program`. What they lend is a premise, which their lines state: `docs/internals/PROOFS.md` lists them.
 //!
 //! `tcpserver` stands here too, in `tool` and `serving`: the service of `tcp_service` over the system's sockets, files
 //! and programs, as its words ask for it. `System` has what it uses of the system, and `OnSystem` is the host of its
@@ -20,16 +20,17 @@ mod ends;
 mod no_folder;
 mod rules;
 mod serving;
+mod standard;
 mod system;
 mod tool;
 
 use byte_streams::Patient;
 use fault_hints::Voice;
 use server_parts::opening::stand_in;
+use standard::run_system;
 use std::process::ExitCode;
 use stream_tools::{run_fixcrio, run_recordio};
 use tool::run_tcpserver;
-use ucspi_tools::run_system;
 
 fn main(rt: HostRuntime) -> ExitCode {
     let serve = |voice: Voice, words: &[Vec<u8>], causes: &mut Vec<u8>| {

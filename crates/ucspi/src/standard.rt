@@ -1,9 +1,8 @@
 //! The tools over the system, and over the streams of the process.
+//!
+//! They stand in the program's crate because whoever names a tool loads all proofs behind it.
 ghost use Rattle.ucspi_tools.specs.Runs.{IsWritten, telling};
 
-use crate::calls::Calls;
-use crate::fault::{ToolFault, write_fault};
-use crate::program::{Program, run_program};
 use byte_streams::Patient;
 use byte_text::NotingStream;
 use child_jobs::Status;
@@ -22,6 +21,7 @@ use std::rt::Env;
 use std::time::Clock;
 use stream_tools::BetweenFailure;
 use stream_tools::started::SystemGiven;
+use ucspi_tools::{Calls, Program, ToolFault, run_program, write_fault};
 
 /// The descriptor of standard input.
 const STANDARD_INPUT: i32 = 0;
@@ -29,7 +29,7 @@ const STANDARD_INPUT: i32 = 0;
 /// Runs the program over the system, and answers its exit code. `errors` is standard error. Those tools that start
 /// threads are lent as calls that may be made at any time, since the system has threads in `main` alone. A stream that
 /// was left non-blocking is waited for.
-pub fn run_system<R, E, S, P>(rt: &R, errors: E, serve: S, pass: P) -> u8
+pub(crate) fn run_system<R, E, S, P>(rt: &R, errors: E, serve: S, pass: P) -> u8
 where
     R: Env + Input + Print + AllocGlobal + Files<File = File> + Clock,
     E: Write + Copy + Drop,
