@@ -66,28 +66,6 @@ CASES = [
         0,
     ),
     (
-        "stops during an installation",
-        ["rulesim"],
-        {},
-        "|:allow\ninstall\n|:deny\nbegin\nto fresh\nstop junk\nask 1.1.1.1\n|:deny\nbegin\nto filling\nstop junk\nask 1.1.1.1\n"
-        "|:deny\nbegin\nto synced\nstop empty\nask 1.1.1.1\n|:deny\nbegin\nto done\nstop junk\nask 1.1.1.1\n",
-        "installed\n"
-        + "".join("begun\n%s\nstopped\n" % phase + allow("rule :") for phase in ("fresh", "filling", "synced"))
-        + "begun\ndone\nstopped\n"
-        + deny("rule :"),
-        "",
-        0,
-    ),
-    (
-        "a name that is not settled",
-        ["rulesim"],
-        {},
-        "|:allow\ninstall\n|:deny\nbegin\nto named\nstop empty\nask 1.1.1.1\n|:deny\nbegin\nto named\nstop kept\nask 1.1.1.1\n",
-        "installed\nbegun\nnamed\nstopped\n" + allow("rule :") + "begun\nnamed\nstopped\n" + deny("rule :"),
-        "",
-        0,
-    ),
-    (
         "a reader without a name",
         ["rulesim"],
         {},

@@ -74,11 +74,6 @@ QUESTIONS = [
 ]
 STOPS = [
     (
-        "a name that is not settled, and junk",
-        ["|:allow", "install", "|:deny", "begin", "to named", "stop junk", "ask 1.1.1.1", "|:deny", "begin", "to named", "stop kept", "ask 1.1.1.1"],
-        [INSTALLED, BEGUN, "named", STOPPED, "rule :", ALLOW, BEGUN, "named", STOPPED, "rule :", DENY],
-    ),
-    (
         # the rename of the second text is followed by the changes of the third, of which the last is lost
         "junk takes all changes but the last",
         ['|:allow,T="1"', "install", '|:allow,T="2"', "begin", "to named", '|:allow,T="3"', "begin", "to fresh"]
@@ -200,6 +195,18 @@ def limited_to(room):
     return limit
 
 
+def stops_in_turn():
+    """A stop of each kind where an installation of `:deny` over `:allow` has begun, and at each phase: what decides before it, and what it leaves. From the
+    rename on that is the new text if the stop takes all changes of names, and once these are settled the new text alone."""
+    for phase in (None, *plain_words.PHASES):
+        steps, reached = (["to " + phase], [phase]) if phase else ([], [])
+        for stop in ("kept", "empty", "junk"):
+            before = DENY if phase in ("named", "done") else ALLOW
+            left = DENY if phase == "done" or (phase, stop) == ("named", "kept") else ALLOW
+            script = ["|:allow", "install", "|:deny", "begin", *steps, "ask 1.1.1.1", "stop " + stop, "ask 1.1.1.1"]
+            yield "stop %s at %s" % (stop, phase or "the beginning"), script, [INSTALLED, BEGUN, *reached, "rule :", before, STOPPED, "rule :", left]
+
+
 def bad_command(number):
     return "rulesim: line %d: bad command\n" % number
 
@@ -216,7 +223,7 @@ def bad_forms():
 
 def cases():
     """Name, script, standard output, standard error, exit code."""
-    for name, script, answers in QUESTIONS + STOPS + EVENTS:
+    for name, script, answers in [*QUESTIONS, *STOPS, *stops_in_turn(), *EVENTS]:
         yield name, text_of(script), text_of(answers), "", 0
     for name, script, answers in UNENDED:
         yield name, script, text_of(answers), "", 0

@@ -433,7 +433,7 @@ TOOL_CALLS = [
     ("open", ["EINTR", "EMFILE", "EACCES", "EIO"]), ("fstat", ["EIO"]), ("stat", ["EIO"]), ("lstat", ["EIO"]), ("fstatat", ["EIO"]), ("statx", ["EIO"]),
     ("read", ["EINTR", "EIO"]), ("write", ["EINTR", "EIO", "ENOSPC"]), ("pread", ["EINTR", "EIO"]), ("pread64", ["EINTR", "EIO"]),
     ("pwrite", ["EIO", "ENOSPC"]),
-    ("lseek", ["EIO"]), ("fcntl", ["EIO", "ENOLCK"]), ("fsync", ["EIO", "ENOSPC"]), ("rename", ["EIO", "EACCES"]),
+    ("lseek", ["EIO"]), ("fcntl", ["EIO", "ENOLCK"]), ("fchmod", ["EIO"]), ("fsync", ["EIO", "ENOSPC"]), ("rename", ["EIO", "EACCES"]),
     ("renameat", ["EIO"]), ("unlink", ["EIO", "EACCES"]), ("unlinkat", ["EIO"]), ("close", ["EIO"]), ("pipe2", ["EMFILE"]), ("posix_spawn", ["EAGAIN"]),
     ("pthread_create", ["EAGAIN"]), ("waitpid", ["EINTR", "EIO", "ECHILD"]),
 ]

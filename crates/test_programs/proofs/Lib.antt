@@ -1,2 +1,1 @@
-pub mod FuseLemmas
 pub mod MemWrites

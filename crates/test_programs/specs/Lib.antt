@@ -1,4 +1,2 @@
--- A directory one of whose calls fails, and a disk in memory.
-pub mod Fuse
-pub mod FuseParts
+-- A disk in memory.
 pub mod MemDisk

@@ -2,8 +2,6 @@
 //! name it does nothing.
 //!
 //! - `test_folders` takes the path of a folder, and makes the calls of it that the standard input asks for
-//! - `test_installs` takes the number of a call, and installs rules in a directory in memory where that call fails
-//! - `test_pairs` takes a limit, and makes a compiled file of the pairs on the standard input
 //! - `test_server` serves connections of its own, or tells a log, as its words say
 //! - `test_sites` runs eight callers of one site, and says what their receipts come to
 #![tactic(auto)]
@@ -12,16 +10,11 @@ mod calls;
 mod children;
 mod eight_threads;
 mod folder;
-mod fuse_dir;
-mod installs;
 mod mem_disk;
-mod pairs;
 mod sites;
 
 use eight_threads::eight_callers_in_threads;
 use folder::run_folder;
-use installs::run_installs;
-use pairs::run_pairs;
 use std::fs::{File, Files};
 use std::io::Read;
 use std::process::ExitCode;
@@ -66,8 +59,6 @@ fn call<R: AllocGlobal + Files<File = File> + Threads + Wait + Clock + Sync>(
     };
     match name {
         "test_folders" => run_folder(rt, rt.alloc(), word, given, out),
-        "test_installs" => run_installs(rt.alloc(), word, out),
-        "test_pairs" => run_pairs(rt.alloc(), word, given, out),
         "test_server" => test_server::run(rt, rt.alloc(), words, out),
         "test_sites" => run_sites(rt, out),
         _ => {}
