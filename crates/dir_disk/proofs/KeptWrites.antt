@@ -7,8 +7,7 @@ use Rattle.std.specs.Prelude.{slice_get, Option, Some, None, Result, Ok, Err, If
 use Rattle.std.specs.Option.{option_map, ForSome}
 use Rattle.dir_calls.specs.Directory.{Directory, FileState, scratch_of}
 use Rattle.dir_calls.specs.Images.{IsImage}
-use Rattle.dir_calls.specs.Calls.{makes, patches, syncs, after, closed, lasting, longer, patched, with_names, with_scratch, without, taken_from}
-use Rattle.dir_calls.specs.Directory.{number_of}
+use Rattle.dir_calls.specs.Calls.{makes, patches, syncs, after, closed, lasting, longer, patched, with_scratch, without}
 use Rattle.dir_calls.specs.Outcomes.{Fails}
 use Rattle.dir_disk.specs.DiskSteps.{AllOrNone, MayWrite, Spoils, after_sync, after_write, created, rewritten_at}
 use Rattle.dir_disk.specs.OsDir.{GivesUp, IsWritable, kept_back, shape}
@@ -110,9 +109,6 @@ kept_synced d e pending kept = ap closed (sym (twice (longer []) lasting lasting
 pub kept_closed : (d e : Directory) (pending : List ℕ) → kept_back [] e ≡ kept_back pending d → closed e ≡ closed (kept_back pending d)
 kept_closed d e pending kept = ap closed (sym (kept_none e) ∙ kept)
 
-pub closed_none : (d : Directory) → d.scratch ≡ None → closed d ≡ d
-closed_none d none = ap (λ (s : Option ℕ). record { names = d.names; files = d.files; scratch = s }) (sym none)
-
 pub kept_nowhere : (d : Directory) (pending : List ℕ) → d.scratch ≡ None → kept_back pending d ≡ d
 kept_nowhere d pending none = ap (λ s. with_scratch (longer pending) s d) none
 
@@ -180,7 +176,3 @@ made_writable d e name number made last =
 pub made_handle : {H E : Type 0} (number : H → ℕ) (d e : Directory) (name : List ℕ) (r : Result H E) → OnOk r (e ≡ created d name) → IfOk r (λ file. e.scratch ≡ Some (number file)) → IfOk r (λ file. IsWritable e (number file) 0)
 made_handle number d e name (Ok file) made last = made_writable d e name (number file) made last
 made_handle number d e name (Err f) made last = _
-
--- where the name was absent, nothing is taken away
-pub without_none : (d : Directory) (name : List ℕ) → number_of d name ≡ None → without d name ≡ d
-without_none d name none = ap (λ o. with_names d (taken_from d.names name o)) none

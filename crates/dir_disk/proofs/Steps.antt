@@ -1,5 +1,5 @@
 -- How the calls of a disk follow one another.
-use Rattle.std.proofs.Common.{◌≡◌, inl, inr, ⊎_elim, ℕ, subst, arith}
+use Rattle.std.proofs.Common.{inl, inr, ⊎_elim, ℕ, arith}
 use Rattle.dir_calls.specs.Directory.{Directory}
 use Rattle.dir_calls.specs.Images.{IsImage}
 use Rattle.dir_calls.specs.Moments.{Elapses}
@@ -23,20 +23,12 @@ elapses_widen first last past since A C one a = record {
 }
 
 module _ {D : Type 0} (state : D → Directory) (moment : D → ℕ) (left_since : D → ℕ → Directory → Type 0) where
-  -- no call
-  pub step_none : (d : D) → StepElapses state moment left_since d d
-  step_none d = record { later = omega arith; nothing_else = λ t image le left. inl left; keeps = λ t image le left. left }
-
   -- after calls that left what a stop before them leaves
   pub step_after : (a b c : D) → StepElapses state moment left_since a b → ((image : Directory) → IsImage (state b) image → IsImage (state a) image)
       → StepElapses state moment left_since b c → StepElapses state moment left_since a c
   step_after a b c one same two =
       elapses_join (moment a) (moment b) (moment c) (left_since a) (left_since b) (left_since c) _ _ _ one two
       (λ image. λ is. inl (⊎_elim (λ was. was) (same image) is)) (λ image. λ is. ⊎_elim (λ was. inl (same image was)) (λ now. inr now) is)
-
-  -- after calls that changed nothing
-  pub step_same : (a b c : D) → StepElapses state moment left_since a b → state b ≡ state a → StepElapses state moment left_since b c → StepElapses state moment left_since a c
-  step_same a b c one same two = step_after a b c one (λ image is. subst (λ s. IsImage s image) same is) two
 
   -- before calls that leave the images as they are
   pub step_before : (a b c : D) → StepElapses state moment left_since a b → StepElapses state moment left_since b c → ((image : Directory) → IsImage (state b) image → IsImage (state c) image)

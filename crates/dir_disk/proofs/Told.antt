@@ -1,6 +1,6 @@
 -- What is told of a disk's answer.
 use Rattle.std.proofs.Common.{◌≡◌, ◌⊎◌, [], ◌∷◌, inl, inr, ⊎_elim, ℕ, ◌≤◌, refl, sym, subst, arith}
-use Rattle.std.specs.Prelude.{Result, Ok, Err, IsErrAnd, IfOk, IfErr, OnOk, OnErr, IsErr, Contains}
+use Rattle.std.specs.Prelude.{Result, Ok, Err, IfOk, IfErr, OnOk, OnErr, IsErr, Contains}
 use Rattle.dir_calls.specs.Directory.{Directory}
 use Rattle.dir_calls.specs.Images.{IsImage}
 use Rattle.dir_calls.specs.Calls.{Call, after}
@@ -24,15 +24,6 @@ pub if_err_then : {T E : Type 0} (r : Result T E) (P Q : E → Type 0) → ((e :
 if_err_then (Ok x) P Q to has = has
 if_err_then (Err e) P Q to has = to e has
 
-pub on_ok_give : {T E : Type 0} (r : Result T E) (Q : Type 0) → Q → OnOk r Q
-on_ok_give (Ok x) Q has = has
-on_ok_give (Err e) Q has = _
-
--- what is said of faults of a kind holds at one
-pub if_err_at : {T E : Type 0} (r : Result T E) (K : E → Type 0) (P : Type 0) → IsErrAnd r K → IfErr r (λ e. K e → P) → P
-if_err_at (Ok x) K P is has = absurd (is)
-if_err_at (Err e) K P is has = has is
-
 pub on_err_give : {T E : Type 0} (r : Result T E) (Q : Type 0) → Q → OnErr r Q
 on_err_give (Ok x) Q has = _
 on_err_give (Err e) Q has = has
@@ -47,12 +38,6 @@ told_err answer (Ok v) P failed has = _
 told_err (Ok v) (Err f) P failed has = absurd (cc)
 told_err (Err e) (Err f) P failed has = has
 
--- what holds where the answer is Ok, or a fault of a kind, holds where it is told to be Ok
-pub told_unless : {T E F : Type 0} (answer : Result T E) (told : Result T F) (K : E → Type 0) (P : Type 0) → OnOk told (IfErr answer K) → OnOk answer P → IfErr answer (λ e. K e → P) → OnOk told P
-told_unless (Ok x) (Ok v) K P kind has same = has
-told_unless (Err e) (Ok v) K P kind has same = same kind
-told_unless answer (Err f) K P kind has same = _
-
 -- a call that did all of its work, or failed
 pub does_told : {T : Type 0} (done : T → Call) (whole : Call) (d e : Directory) (told : Result T DirFault) → IfOk told (λ v. e ≡ after (done v) d) → IfErr told (λ f. f ≡ Device) → OnErr told (Fails whole d e)
     → Does done whole d e told
@@ -61,10 +46,6 @@ does_told done whole d e (Err Device) ok device failed = failed
 does_told done whole d e (Err NoScratch) ok device failed = absurd (cc)
 does_told done whole d e (Err NoName) ok device failed = absurd (cc)
 does_told done whole d e (Err OutOfMemory) ok device failed = absurd (cc)
-
--- a device fault whose result is given on
-pub does_fault : {T : Type 0} (done : T → Call) (whole : Call) (d e : Directory) (told : Result T DirFault) → told ≡ Err Device → Fails whole d e → Does done whole d e told
-does_fault done whole d e told is failed = subst (λ (r : Result _ DirFault). Does done whole d e r) (sym is) failed
 
 -- what an answer holds that is known
 pub on_err_take : {T E : Type 0} (r : Result T E) (P : Type 0) → IsErr r → OnErr r P → P

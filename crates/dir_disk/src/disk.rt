@@ -1,11 +1,11 @@
 //! What a file system promises, call by call.
-ghost use Rattle.std.specs.Prelude.{◌≡◌, ◌≢◌, ◌≤◌, ◌<◌, ◌+◌, ◌^◌, List, ℕ, Bool, true, IsTrue, None, Some, length, take, slice_get, IfOk, OnOk, OnErr};
+ghost use Rattle.std.specs.Prelude.{◌≡◌, ◌≢◌, ◌≤◌, ◌<◌, ◌+◌, ◌^◌, List, ℕ, Bool, true, IsTrue, None, Some, length, slice_get, IfOk, OnOk, OnErr};
 ghost use Rattle.std.specs.Option.{option_map, ForSome};
 ghost use Rattle.dir_calls.specs.Directory.{Directory, number_of};
 ghost use Rattle.dir_calls.specs.Images.{IsImage};
 ghost use Rattle.dir_calls.specs.Files.{Gives};
 ghost use Rattle.dir_calls.specs.Calls.{renames, settles, after, closed, without};
-ghost use Rattle.dir_disk.specs.DiskFaults.{OnInterrupted, OnNotFound};
+ghost use Rattle.dir_disk.specs.DiskFaults.{OnNotFound};
 ghost use Rattle.dir_disk.specs.DiskSteps.{AllOrNone, FindsNone, MayWrite, MovesNoOther, MovesOrNot, RemovesOrNot, SettlesPart, Spoils, StepElapses, after_sync, after_write, created};
 
 use dir_calls::Name;
@@ -33,16 +33,15 @@ pub trait DiskFile {
     /// Reads bytes from a position on into the front of `buf`, and answers how many. Fewer than there are may be read.
     ///
     /// # Errors
-    /// Those of the system. If a signal interrupted the read, nothing was read.
+    /// Those of the system.
     fn read_at(&self, position: u64, buf: &mut [u8]) -> io::Result<usize>
         ensures room { IfOk result (λ n. n ≤ length buf.old) }
         ensures same_length { length buf.new ≡ length buf.old }
-        ensures gives { IsTrue honest → IfOk result (λ n. Gives (bytes self.now) position n buf.old buf.new) }
-        ensures interrupted { IsTrue honest → OnInterrupted result (buf.new ≡ buf.old) };
+        ensures gives { IsTrue honest → IfOk result (λ n. Gives (bytes self.now) position n buf.old buf.new) };
 }
 
-/// A folder of a file system. Each call does what POSIX and Linux promise, if only this process changes the names. A
-/// call that a signal interrupts has done nothing.
+/// A folder of a file system. Each call does what POSIX and Linux promise, if only this process changes the names. If a
+/// signal interrupts a call of the system, which has done nothing then, the disk makes it again.
 pub trait Disk {
     /// An opened file.
     type File: DiskFile + Drop;
@@ -74,19 +73,15 @@ pub trait Disk {
     /// Those of the system. The first of the changes may be lasting then, some or all or none.
     fn sync_folder(&mut self) -> io::Result<()>
         ensures done { IsTrue honest → OnOk result (state self.new ≡ after settles (state self.old)) }
-        ensures interrupted { IsTrue honest → OnInterrupted result (state self.new ≡ state self.old) }
         ensures failed { IsTrue honest → OnErr result (SettlesPart (state self.old) (state self.new)) }
         ensures time { IsTrue honest → StepElapses state moment left_since self.old self.new };
 
-    /// Takes a name away (unlink).
+    /// Takes a name away, if it stands (unlink).
     ///
     /// # Errors
-    /// `NotFound` if there is no such name; others of the system, and then the name may be taken away.
+    /// Those of the system, and then the name may be taken away.
     fn unlink(&mut self, name: &Name) -> io::Result<()>
         ensures done { IsTrue honest → OnOk result (state self.new ≡ without (state self.old) name.now) }
-        ensures absent { IsTrue honest → OnNotFound result
-            (FindsNone name.now (state self.old) (state self.new)) }
-        ensures interrupted { IsTrue honest → OnInterrupted result (state self.new ≡ state self.old) }
         ensures failed { IsTrue honest → OnErr result
             (RemovesOrNot name.now (state self.old) (state self.new)) }
         ensures time { IsTrue honest → StepElapses state moment left_since self.old self.new };
@@ -104,30 +99,25 @@ pub trait Disk {
             (AllOrNone (state self.old) (closed (created (state self.old) name.now)) (state self.new)) }
         ensures time { IsTrue honest → StepElapses state moment left_since self.old self.new };
 
-    /// Writes bytes from a position on, perhaps not all, and answers how many (pwrite).
+    /// Writes all of these bytes from a position on (pwrite, as often as it takes).
     ///
     /// # Errors
-    /// Those of the system. After any but an interruption the file may hold any bytes, and it is not known that a later
-    /// sync makes them last.
-    fn write_at(&mut self, file: &Self::File, position: u64, bytes: &[u8]) -> io::Result<usize>
+    /// Those of the system. Then the file may hold any bytes, and it is not known that a later sync makes them last.
+    fn write_all_at(&mut self, file: &Self::File, position: u64, bytes: &[u8]) -> io::Result<()>
         requires may { IsTrue honest → MayWrite (state self.old) (number file.now) position }
-        ensures count { IfOk result (λ n. n ≤ length bytes.now) }
-        ensures fits { IsTrue honest → IfOk result (λ n. position + n < 2 ^ 63) }
-        ensures done { IsTrue honest → IfOk result (λ n.
-            state self.new ≡ after_write position (take n bytes.now) (state self.old)) }
-        ensures interrupted { IsTrue honest → OnInterrupted result (state self.new ≡ state self.old) }
+        ensures fits { IsTrue honest → OnOk result (position + length bytes.now < 2 ^ 63) }
+        ensures done { IsTrue honest → OnOk result
+            (state self.new ≡ after_write position bytes.now (state self.old)) }
         ensures failed { IsTrue honest → OnErr result (Spoils (state self.old) (state self.new)) }
         ensures time { IsTrue honest → StepElapses state moment left_since self.old self.new };
 
     /// Makes all that was written to the file lasting (fsync).
     ///
     /// # Errors
-    /// Those of the system. After any but an interruption the file may hold any bytes, and it is not known that a later
-    /// sync makes them last.
+    /// Those of the system. Then the file may hold any bytes, and it is not known that a later sync makes them last.
     fn sync(&mut self, file: &Self::File) -> io::Result<()>
         requires may { IsTrue honest → (state self.old).scratch ≡ Some (number file.now) }
         ensures done { IsTrue honest → OnOk result (state self.new ≡ after_sync (state self.old)) }
-        ensures interrupted { IsTrue honest → OnInterrupted result (state self.new ≡ state self.old) }
         ensures failed { IsTrue honest → OnErr result (Spoils (state self.old) (state self.new)) }
         ensures time { IsTrue honest → StepElapses state moment left_since self.old self.new };
 
@@ -152,7 +142,6 @@ pub trait Disk {
             (state self.new ≡ after (renames from.now to.now) (state self.old)) }
         ensures absent { IsTrue honest → OnNotFound result
             (FindsNone from.now (state self.old) (state self.new)) }
-        ensures interrupted { IsTrue honest → OnInterrupted result (state self.new ≡ state self.old) }
         ensures failed { IsTrue honest → OnErr result
             (MovesOrNot from.now to.now (state self.old) (state self.new)) }
         ensures time { IsTrue honest → StepElapses state moment left_since self.old self.new };

@@ -12,7 +12,6 @@ pub mod failure;
 pub mod lock;
 pub mod os_dir;
 pub mod os_file;
-mod patient;
 mod scratch;
 pub mod system_disk;
 

@@ -18,9 +18,8 @@ use crate::disk::Disk;
 use crate::failure::DiskFailure;
 use crate::lock::{NoWait, Waits};
 use crate::os_file::OsFile;
-use crate::patient::{TRIES, open, rename, sync_folder, unlink};
-use crate::scratch::{BUFFER, give_up, make_room, overwrite, renew, sync_kept};
-use crate::system_disk::SystemDisk;
+use crate::scratch::{BUFFER, give_up, make_room, overwrite, rename, renew, sync_kept};
+use crate::system_disk::{SystemDisk, check_folder, patiently};
 use dir_calls::{ClearableDir, Dir, DirFault, Name};
 use std::alloc::{AllocError, Global};
 use std::fmt;
@@ -135,7 +134,7 @@ impl<D: Disk + Drop> ClearableDir for DiskDir<D> {
         give_up(&mut self.disk, scratch);
         self.made = None;
         self.pending.clear();
-        let outcome = unlink(&mut self.disk, name);
+        let outcome = self.disk.unlink(name);
         told(&mut self.failures, outcome)
     }
 }
@@ -162,35 +161,22 @@ impl<R: Files<File = File> + Drop, W: Waits + Drop> DiskDir<SystemDisk<R, W>> {
     }
 }
 
-/// The system's error for a path that leads through something other than a folder.
-const NO_FOLDER: i32 = 20;
-
 /// Checks that a folder stands at a path.
 ///
 /// # Errors
 /// `NoFolder` if there is nothing or no folder; `Device` if the system does not say what stands there.
 pub fn find_folder<R: Files>(files: &R, folder: &str) -> Result<(), FolderError> {
-    for _ in 0..TRIES {
-        match files.metadata(folder) {
-            Ok(found) if found.is_dir() => return Ok(()),
-            Ok(_) => return Err(unusable(&io::Error::from_raw_os_error(NO_FOLDER))),
-            Err(error) if error.kind() == ErrorKind::Interrupted => {}
-            Err(error) => return Err(unusable(&error)),
-        }
-    }
-    Err(unusable(&io::Error::from(ErrorKind::Interrupted)))
-}
-
-// The fault for an error of the look at a folder.
-fn unusable(error: &io::Error) -> FolderError {
+    let Err(error) = patiently(|| check_folder(files, folder)) else {
+        return Ok(());
+    };
     let fault = match error.kind() {
         ErrorKind::NotFound | ErrorKind::NotADirectory => FolderFault::NoFolder,
         _ => FolderFault::Device,
     };
-    FolderError {
+    Err(FolderError {
         fault,
         error: error.raw_os_error(),
-    }
+    })
 }
 
 // The answer of the disk, with its faults counted as the device's.
@@ -249,7 +235,7 @@ fn open_file<D: Disk>(
     ensures same { IsTrue D.honest → D.state disk.new ≡ D.state disk.old }
     ensures time { IsTrue D.honest → StepElapses D.state D.moment D.left_since disk.old disk.new }
 {
-    let file = match open(disk, name) {
+    let file = match disk.open(name) {
         Ok(file) => file,
         Err(error) if error.kind() == ErrorKind::NotFound => return Ok(None),
         Err(error) => return Err(error),
@@ -372,7 +358,7 @@ impl<D: Disk + Drop> Dir for DiskDir<D> {
     }
 
     fn settle(&mut self) -> Result<(), DirFault> {
-        let outcome = sync_folder(&mut self.disk);
+        let outcome = self.disk.sync_folder();
         told(&mut self.failures, outcome)
     }
 

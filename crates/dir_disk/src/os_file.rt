@@ -2,9 +2,7 @@
 ghost use Rattle.std.specs.Prelude.{◌≡◌, length, IsTrue};
 
 use crate::disk::DiskFile;
-use crate::patient::TRIES;
 use dir_calls::{DeviceFault, RulesFile};
-use std::io::ErrorKind;
 
 /// An opened file of a disk. Dropping it closes it. It is honest if its disk's files are.
 #[derive(Drop)]
@@ -42,13 +40,9 @@ impl<F: DiskFile + Drop> RulesFile for OsFile<F> {
     }
 
     fn read_at(&self, position: u64, buf: &mut [u8]) -> Result<usize, DeviceFault> {
-        for _ in 0..TRIES {
-            match self.file.read_at(position, buf) {
-                Ok(count) => return Ok(count),
-                Err(error) if error.kind() == ErrorKind::Interrupted => {}
-                Err(_) => return Err(DeviceFault),
-            }
+        match self.file.read_at(position, buf) {
+            Ok(count) => Ok(count),
+            Err(_) => Err(DeviceFault),
         }
-        Err(DeviceFault)
     }
 }

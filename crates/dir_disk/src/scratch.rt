@@ -1,16 +1,17 @@
 //! The scratch file of a disk. Its last bytes are kept back before they are written.
-ghost use Rattle.std.specs.Prelude.{◌≡◌, ◌≤◌, ◌<◌, ◌+◌, [], None, Some, IsTrue, length, IfOk, OnOk, OnErr, vec_len};
+ghost use Rattle.std.specs.Prelude.{◌≡◌, ◌≤◌, ◌<◌, ◌+◌, [], None, Some, IsSome, IsTrue, length, IfOk, OnOk, OnErr, vec_len};
 ghost use Rattle.std.specs.Option.{option_map};
-ghost use Rattle.dir_calls.specs.Calls.{makes, patches, syncs, after, closed};
+ghost use Rattle.dir_calls.specs.Calls.{makes, patches, renames, syncs, after, closed};
+ghost use Rattle.dir_calls.specs.Directory.{number_of};
 ghost use Rattle.dir_calls.specs.Methods.{CallElapses, CallIncludes};
 ghost use Rattle.dir_calls.specs.Outcomes.{Fails};
-ghost use Rattle.dir_disk.specs.DiskSteps.{Spoils, StepElapses};
+ghost use Rattle.dir_disk.specs.DiskFaults.{OnNotFound};
+ghost use Rattle.dir_disk.specs.DiskSteps.{FindsNone, MovesNoOther, MovesOrNot, Spoils, StepElapses};
 ghost use Rattle.dir_disk.specs.OsDir.{GivesUp, Holds, IsWritable, KeptElapses, KeptIncludes, kept_back};
 
 use crate::disk::Disk;
-use crate::patient::{sync, unlink, write_all};
 use dir_calls::Name;
-use std::io;
+use std::io::{self, ErrorKind};
 
 /// How many bytes are kept back until they are written. Each write but the last has this many.
 pub(crate) const BUFFER: usize = 65_536;
@@ -37,7 +38,7 @@ pub(crate) fn write_kept<D: Disk>(
     ensures failed { IsTrue D.honest → OnErr result (GivesUp (D.state disk.old) (D.state disk.new)) }
     ensures time { IsTrue D.honest → StepElapses D.state D.moment D.left_since disk.old disk.new }
 {
-    match write_all(disk, &file, written, pending.as_slice()) {
+    match disk.write_all_at(&file, written, pending.as_slice()) {
         Ok(()) => {
             let end = written.saturating_add(pending.len() as u64);
             pending.clear();
@@ -91,7 +92,7 @@ pub(crate) fn overwrite<D: Disk>(
     ensures time { IsTrue D.honest → StepElapses D.state D.moment D.left_since disk.old disk.new }
 {
     let (file, written) = write_kept(disk, file, written, pending)?;
-    match write_all(disk, &file, position, bytes) {
+    match disk.write_all_at(&file, position, bytes) {
         Ok(()) => Ok((file, written)),
         Err(error) => {
             disk.close(&file);
@@ -118,7 +119,7 @@ pub(crate) fn sync_kept<D: Disk>(
     ensures time { IsTrue D.honest → StepElapses D.state D.moment D.left_since disk.old disk.new }
 {
     let (file, _written) = write_kept(disk, file, written, pending)?;
-    let outcome = sync(disk, &file);
+    let outcome = disk.sync(&file);
     disk.close(&file);
     *made = Some(file);
     outcome
@@ -172,7 +173,7 @@ pub(crate) fn make_file<D: Disk>(disk: &mut D, name: &Name) -> io::Result<D::Fil
     ensures within { IsTrue D.honest → OnOk result
         (CallIncludes D.state D.moment D.left_since (makes name.now) disk.old disk.new) }
 {
-    unlink(disk, name)?;
+    disk.unlink(name)?;
     disk.create(name, MODE)
 }
 
@@ -199,4 +200,33 @@ pub(crate) fn renew<D: Disk>(
 {
     let_go(disk, scratch, written, pending)?;
     make_file(disk, name)
+}
+
+/// Moves one name onto another, if it stands for the file that was made. If none was made, nothing is moved.
+pub(crate) fn rename<D: Disk>(
+    disk: &mut D,
+    made: &Option<D::File>,
+    from: &Name,
+    to: &Name,
+) -> io::Result<()>
+    ensures own { IsTrue D.honest → OnOk result
+        (number_of (D.state disk.old) from.now ≡ option_map D.number made.now) }
+    ensures own_if_moved { IsTrue D.honest → OnErr result
+        (MovesNoOther (option_map D.number made.now) from.now (D.state disk.old) (D.state disk.new)) }
+    ensures found { IsTrue D.honest → OnOk result (IsSome (number_of (D.state disk.old) from.now)) }
+    ensures done { IsTrue D.honest → OnOk result
+        (D.state disk.new ≡ after (renames from.now to.now) (D.state disk.old)) }
+    ensures absent { IsTrue D.honest → OnNotFound result
+        (FindsNone from.now (D.state disk.old) (D.state disk.new)) }
+    ensures failed { IsTrue D.honest → OnErr result
+        (MovesOrNot from.now to.now (D.state disk.old) (D.state disk.new)) }
+    ensures time { IsTrue D.honest → StepElapses D.state D.moment D.left_since disk.old disk.new }
+{
+    match made {
+        Some(file) => disk.rename(file, from, to),
+        None => match disk.open(from) {
+            Ok(_) => Err(io::Error::from(ErrorKind::Other)),
+            Err(error) => Err(error),
+        },
+    }
 }

@@ -19,16 +19,20 @@ use std::sync::atomic::AtomicU32;
 /// How many bytes a slash and a name have at most.
 const LONGEST: usize = 256;
 
+/// How often a call is made again if signals interrupt it.
+const TRIES: u32 = 1_000;
+
 /// How often a name is tried for that another process has: more often than there is time for.
-const TRIES: u32 = 1_000_000;
+const NAME_TRIES: u32 = 1_000_000;
 
 /// The system's errors: for a file of a folder that is gone, and for what is no folder.
 const STALE: i32 = 116;
 
 const NO_FOLDER: i32 = 20;
 
-/// A folder of the system. Each call is one of std's, which makes one of the system's and passes on its answer. Nothing
-/// is known of the system: that it does what `Disk` says is the premise of all that stands on it.
+/// A folder of the system. Each call is one of std's, which makes one of the system's and passes on its answer. If a
+/// signal interrupts it, it is made again, with the looks before it. Nothing is known of the system: that it does what
+/// `Disk` says is the premise of all that stands on it.
 ///
 /// Std has no calls by a folder's descriptor, so each call is by the path. The folder is opened once, before the first
 /// change of a name; if it can't be opened for reading, nothing has changed. Before each change of a name, and before
@@ -77,6 +81,28 @@ fn no_more() -> io::Error {
     io::Error::from(ErrorKind::OutOfMemory)
 }
 
+/// Makes a call, and makes it again if a signal interrupts it.
+pub(crate) fn patiently<T, F: FnMut() -> io::Result<T>>(mut call: F) -> io::Result<T>
+    requires { F.IsAlwaysCallable call }
+{
+    for _ in 0..TRIES {
+        match call() {
+            Err(error) if error.kind() == ErrorKind::Interrupted => {}
+            outcome => return outcome,
+        }
+    }
+    Err(io::Error::from(ErrorKind::Interrupted))
+}
+
+/// Checks that a folder stands at a path.
+pub(crate) fn check_folder<R: Files>(files: &R, path: &str) -> io::Result<()> {
+    if files.metadata(path)?.is_dir() {
+        Ok(())
+    } else {
+        Err(io::Error::from_raw_os_error(NO_FOLDER))
+    }
+}
+
 impl<R: Files<File = File> + Drop, W: Waits + Drop> SystemDisk<R, W> {
     /// The folder at a path. The system is not called.
     pub(crate) fn new(alloc: Global, files: R, waits: W, folder: &str) -> Result<Self, AllocError>
@@ -99,9 +125,8 @@ impl<R: Files<File = File> + Drop, W: Waits + Drop> SystemDisk<R, W> {
     // Opens the folder. A folder that can't be opened is an error of no other meaning.
     fn open_folder(&self) -> io::Result<File> {
         let path = self.folder.as_str();
-        let outcome = match self.files.metadata(path) {
-            Ok(found) if found.is_dir() => OpenOptions::new().read(true).open(&self.files, path),
-            Ok(_) => Err(io::Error::from_raw_os_error(NO_FOLDER)),
+        let outcome = match check_folder(&self.files, path) {
+            Ok(()) => OpenOptions::new().read(true).open(&self.files, path),
             Err(error) => Err(error),
         };
         match self.notes.note(FailedOn::Folder, outcome) {
@@ -144,7 +169,7 @@ impl<R: Files<File = File> + Drop, W: Waits + Drop> SystemDisk<R, W> {
     // there meanwhile, and have been told that it stands there for good.
     fn take_away(&mut self, name: &Name) -> io::Result<()> {
         put_path(&mut self.path, self.folder.as_str(), name)?;
-        for _ in 0..TRIES {
+        for _ in 0..NAME_TRIES {
             self.see_folder()?;
             let outcome = take_free(&self.files, self.path.as_str(), self.made);
             if let Some(outcome) = self.answer(outcome) {
@@ -157,7 +182,7 @@ impl<R: Files<File = File> + Drop, W: Waits + Drop> SystemDisk<R, W> {
     // Makes a file under a name.
     fn make(&mut self, name: &Name, mode: u32) -> io::Result<File> {
         put_path(&mut self.path, self.folder.as_str(), name)?;
-        for _ in 0..TRIES {
+        for _ in 0..NAME_TRIES {
             self.see_folder()?;
             let outcome = self.make_hidden(mode);
             if let Some(outcome) = self.answer(outcome) {
@@ -258,11 +283,17 @@ impl DiskFile for SystemFile {
     ghost honest = { false };
 
     fn read_at(&self, position: u64, buf: &mut [u8]) -> io::Result<usize> {
-        let outcome = self.file.read_at(buf, position);
-        if let Some(noted) = &self.noted {
-            store(noted, &outcome);
+        for _ in 0..TRIES {
+            let outcome = self.file.read_at(buf, position);
+            if let Some(noted) = &self.noted {
+                store(noted, &outcome);
+            }
+            match outcome {
+                Err(error) if error.kind() == ErrorKind::Interrupted => {}
+                outcome => return outcome,
+            }
         }
-        outcome
+        Err(io::Error::from(ErrorKind::Interrupted))
     }
 }
 
@@ -290,7 +321,7 @@ impl<R: Files<File = File> + Drop, W: Waits + Drop> Disk for SystemDisk<R, W> {
     ghost honest_files = { refl };
 
     fn sync_folder(&mut self) -> io::Result<()> {
-        self.see_folder()?;
+        patiently(|| self.see_folder())?;
         let outcome = match &self.opened {
             Some(folder) => folder.sync_all(),
             None => Err(stale()),
@@ -301,9 +332,12 @@ impl<R: Files<File = File> + Drop, W: Waits + Drop> Disk for SystemDisk<R, W> {
     // (a failure that is noted already stays noted)
     fn unlink(&mut self, name: &Name) -> io::Result<()> {
         let failure = self.notes.last();
-        let outcome = self.take_away(name);
+        let outcome = patiently(|| self.take_away(name));
         self.notes.keep(failure);
-        outcome
+        match outcome {
+            Err(error) if error.kind() == ErrorKind::NotFound => Ok(()),
+            outcome => outcome,
+        }
     }
 
     fn create(&mut self, name: &Name, mode: u32) -> io::Result<SystemFile> {
@@ -311,9 +345,9 @@ impl<R: Files<File = File> + Drop, W: Waits + Drop> Disk for SystemDisk<R, W> {
         Ok(SystemFile { file, noted: None })
     }
 
-    fn write_at(&mut self, file: &SystemFile, position: u64, bytes: &[u8]) -> io::Result<usize> {
-        self.notes
-            .note(FailedOn::Name, file.file.write_at(bytes, position))
+    fn write_all_at(&mut self, file: &SystemFile, position: u64, bytes: &[u8]) -> io::Result<()> {
+        let outcome = file.file.write_all_at(bytes, position);
+        self.notes.note(FailedOn::Name, outcome)
     }
 
     fn sync(&mut self, file: &SystemFile) -> io::Result<()> {
@@ -327,11 +361,11 @@ impl<R: Files<File = File> + Drop, W: Waits + Drop> Disk for SystemDisk<R, W> {
     fn close(&mut self, _file: &SystemFile) {}
 
     fn rename(&mut self, file: &SystemFile, from: &Name, to: &Name) -> io::Result<()> {
-        self.move_file(&file.file, from, to)
+        patiently(|| self.move_file(&file.file, from, to))
     }
 
     fn open(&mut self, name: &Name) -> io::Result<SystemFile> {
-        let outcome = self.open_file(name);
+        let outcome = patiently(|| self.open_file(name));
         let file = self.notes.note(FailedOn::Name, outcome)?;
         Ok(SystemFile {
             file,

@@ -81,6 +81,14 @@ impl Install {
         self.names.cdb()
     }
 
+    /// The name of the scratch file.
+    pub fn tmp(&self) -> &Name
+        ensures name { result.now ≡ (installing self.now).names.tmp }
+        ensures other { (installing self.now).names.cdb ≢ (installing self.now).names.tmp }
+    {
+        self.names.tmp()
+    }
+
     /// The rules.
     pub fn list(&self) -> &RuleList
         ensures { result.now ≡ (installing self.now).rules }

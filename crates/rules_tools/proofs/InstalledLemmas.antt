@@ -33,7 +33,7 @@ use Rattle.rules_install.specs.declared.fault.InstallFault.TheVariants as instal
 use Rattle.rules_install.proofs.WholeLemmas.{none_left, stands_now}
 use Rattle.rules_tools.specs.Installed.{Answers, Blames, CompilesTo, FailsInput, FailsText, FolderRun, Installs, IsRefusal, LastsAfter, LeavesNoScratch, PassesPaths, Tells, WasRead, ended}
 use Rattle.rules_tools.specs.Disks.{BlamesDisk, EndsOnDisk}
-use Rattle.rules_tools.specs.Paths.{AreSplit, paths_fault}
+use Rattle.rules_tools.specs.Paths.{AreNames, paths_fault}
 use Rattle.rules_tools.specs.Reviews.{profile}
 use Rattle.rules_tools.specs.Rules.{line_fault, told_fault}
 use Rattle.rules_tools.specs.Scratch.{AfterFault, AfterFaultTold}
@@ -299,17 +299,17 @@ disk_touches install.TooLarge ends refusal = ends
 disk_touches install.Over ends refusal = ends
 
 -- nothing is wrong with paths of whose names or text something is told
-pub tells : (folder other : List ℕ) (names : NamePair) (result : Result (Unit {0}) TcprulesFault) → PassesPaths result → paths_fault folder other names ≡ None → Tells folder other names result
-tells folder other names (Ok done) passes none = none
-tells folder other names (Err BadName) passes none = absurd passes
-tells folder other names (Err OtherFolder) passes none = absurd passes
-tells folder other names (Err SameName) passes none = absurd passes
-tells folder other names (Err ReadFault) passes none = none
-tells folder other names (Err (Line fault)) passes none = none
-tells folder other names (Err LongText) passes none = none
-tells folder other names (Err TooLarge) passes none = none
-tells folder other names (Err (Device phase)) passes none = none
-tells folder other names (Err OutOfMemory) passes none = none
+pub tells : (one : Bool) (names : NamePair) (result : Result (Unit {0}) TcprulesFault) → PassesPaths result → paths_fault one names ≡ None → Tells one names result
+tells one names (Ok done) passes none = none
+tells one names (Err BadName) passes none = absurd passes
+tells one names (Err OtherFolder) passes none = absurd passes
+tells one names (Err SameName) passes none = absurd passes
+tells one names (Err ReadFault) passes none = none
+tells one names (Err (Line fault)) passes none = none
+tells one names (Err LongText) passes none = none
+tells one names (Err TooLarge) passes none = none
+tells one names (Err (Device phase)) passes none = none
+tells one names (Err OutOfMemory) passes none = none
 
 -- what is wrong with paths is wrong with their names or folders
 abbrev IsOfPaths : TcprulesFault → Type 0
@@ -318,8 +318,8 @@ IsOfPaths OtherFolder = ⊤
 IsOfPaths SameName = ⊤
 IsOfPaths fault = ⊥
 
-of_paths : (folder other : List ℕ) (names : NamePair) (fault : TcprulesFault) → paths_fault folder other names ≡ Some fault → IsOfPaths fault
-of_paths folder other names fault is = by (is_some (name_fault names.cdb) || is_some (name_fault names.tmp)) (bytes_eq folder other) (bytes_eq names.cdb names.tmp) is
+of_paths : (one : Bool) (names : NamePair) (fault : TcprulesFault) → paths_fault one names ≡ Some fault → IsOfPaths fault
+of_paths one names fault is = by (is_some (name_fault names.cdb) || is_some (name_fault names.tmp)) one (bytes_eq names.cdb names.tmp) is
   where
     by : (bad one_folder one_name : Bool) → cond bad (Some BadName) (cond one_folder (cond one_name (Some SameName) None) (Some OtherFolder)) ≡ Some fault → IsOfPaths fault
     by true one_folder one_name is = let same : BadName ≡ fault = cc in subst (λ f. IsOfPaths f) same tt
@@ -327,25 +327,25 @@ of_paths folder other names fault is = by (is_some (name_fault names.cdb) || is_
     by false true false is = absurd (cc)
     by false false one_name is = let same : OtherFolder ≡ fault = cc in subst (λ f. IsOfPaths f) same tt
 
-pub tells_fault : (folder other : List ℕ) (names : NamePair) (fault : TcprulesFault) → AreSplit folder other names (Err fault) → Tells folder other names (Err fault)
-tells_fault folder other names BadName placed = placed
-tells_fault folder other names OtherFolder placed = placed
-tells_fault folder other names SameName placed = placed
-tells_fault folder other names ReadFault placed = absurd (of_paths folder other names ReadFault placed)
-tells_fault folder other names (Line fault) placed = absurd (of_paths folder other names (Line fault) placed)
-tells_fault folder other names LongText placed = absurd (of_paths folder other names LongText placed)
-tells_fault folder other names TooLarge placed = absurd (of_paths folder other names TooLarge placed)
-tells_fault folder other names (Device phase) placed = absurd (of_paths folder other names (Device phase) placed)
-tells_fault folder other names OutOfMemory placed = placed
+pub tells_fault : (one : Bool) (names : NamePair) (fault : TcprulesFault) → AreNames one names (Err fault) → Tells one names (Err fault)
+tells_fault one names BadName placed = placed
+tells_fault one names OtherFolder placed = placed
+tells_fault one names SameName placed = placed
+tells_fault one names ReadFault placed = absurd (of_paths one names ReadFault placed)
+tells_fault one names (Line fault) placed = absurd (of_paths one names (Line fault) placed)
+tells_fault one names LongText placed = absurd (of_paths one names LongText placed)
+tells_fault one names TooLarge placed = absurd (of_paths one names TooLarge placed)
+tells_fault one names (Device phase) placed = absurd (of_paths one names (Device phase) placed)
+tells_fault one names OutOfMemory placed = placed
 
 -- where nothing is wrong with paths that are not placed, there was no memory
-pub memory_alone : (folder other : List ℕ) (names : NamePair) (fault : TcprulesFault) → AreSplit folder other names (Err fault) → paths_fault folder other names ≡ None → fault ≡ OutOfMemory
-memory_alone folder other names BadName placed none = absurd (cc)
-memory_alone folder other names OtherFolder placed none = absurd (cc)
-memory_alone folder other names SameName placed none = absurd (cc)
-memory_alone folder other names ReadFault placed none = absurd (cc)
-memory_alone folder other names (Line fault) placed none = absurd (cc)
-memory_alone folder other names LongText placed none = absurd (cc)
-memory_alone folder other names TooLarge placed none = absurd (cc)
-memory_alone folder other names (Device phase) placed none = absurd (cc)
-memory_alone folder other names OutOfMemory placed none = refl
+pub memory_alone : (one : Bool) (names : NamePair) (fault : TcprulesFault) → AreNames one names (Err fault) → paths_fault one names ≡ None → fault ≡ OutOfMemory
+memory_alone one names BadName placed none = absurd (cc)
+memory_alone one names OtherFolder placed none = absurd (cc)
+memory_alone one names SameName placed none = absurd (cc)
+memory_alone one names ReadFault placed none = absurd (cc)
+memory_alone one names (Line fault) placed none = absurd (cc)
+memory_alone one names LongText placed none = absurd (cc)
+memory_alone one names TooLarge placed none = absurd (cc)
+memory_alone one names (Device phase) placed none = absurd (cc)
+memory_alone one names OutOfMemory placed none = refl

@@ -1,5 +1,5 @@
 -- What a run of `tcprules` tells, and what it leaves under the name of the rules file.
-use Rattle.std.specs.Prelude.{◌≡◌, ◌≢◌, ◌<◌, ⊤, ℕ, IsTrue, List, Option, Some, None, IfSome, IfErr, OnOk, Result, Ok, Err}
+use Rattle.std.specs.Prelude.{◌≡◌, ◌≢◌, ◌<◌, ⊤, ℕ, Bool, IsTrue, List, Option, Some, None, IfSome, IfErr, OnOk, Result, Ok, Err, bytes_eq}
 use Rattle.dir_calls.specs.Directory.{Directory, content}
 use Rattle.dir_calls.specs.declared.fault.DirFault.{DirFault}
 use Rattle.dir_calls.specs.declared.fault.DirFault.TheVariants.{Device as DeviceFault}
@@ -105,11 +105,11 @@ pub record Installs {D F : Type 0} (run : FolderRun D F) (names : NamePair) (res
   pub removed : IsTrue run.tells.honest → AfterFaultTold (LeavesNoScratch run names) result
 
 -- what is told of two paths, and then of a text: nothing is wrong with the paths where the text is told of
-abbrev pub Tells : (folder other : List ℕ) → NamePair → Result (Unit {0}) TcprulesFault → Type 0
-Tells folder other names (Err BadName) = paths_fault folder other names ≡ Some BadName
-Tells folder other names (Err OtherFolder) = paths_fault folder other names ≡ Some OtherFolder
-Tells folder other names (Err SameName) = paths_fault folder other names ≡ Some SameName
-Tells folder other names result = paths_fault folder other names ≡ None
+abbrev pub Tells : (one_folder : Bool) → NamePair → Result (Unit {0}) TcprulesFault → Type 0
+Tells one_folder names (Err BadName) = paths_fault one_folder names ≡ Some BadName
+Tells one_folder names (Err OtherFolder) = paths_fault one_folder names ≡ Some OtherFolder
+Tells one_folder names (Err SameName) = paths_fault one_folder names ≡ Some SameName
+Tells one_folder names result = paths_fault one_folder names ≡ None
 
 -- a run for two names tells nothing of paths
 abbrev pub PassesPaths : Result (Unit {0}) TcprulesFault → Type 0
@@ -125,8 +125,8 @@ pub record Runs {D F : Type 0} (run : FolderRun D F) (cdb tmp : List ℕ) (resul
   pub names : NamePair
   pub first : IsSplit cdb folder names.cdb
   pub second : IsSplit tmp other names.tmp
-  pub told : Tells folder other names result
-  pub installs : paths_fault folder other names ≡ None → Installs run names result
+  pub told : Tells (bytes_eq folder other) names result
+  pub installs : paths_fault (bytes_eq folder other) names ≡ None → Installs run names result
 
 -- what a text that was read is compiled to: an installation of which no step was made
 pub record CompilesTo (input : Option (List ℕ)) (names : NamePair) (s : Installing) : Type 0 where

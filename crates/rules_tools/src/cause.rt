@@ -33,10 +33,7 @@ impl ErrorCause {
     pub(crate) fn of(of: CauseOf, error: Option<i32>) -> Option<ErrorCause>
         ensures { result ≡ cause_of of error }
     {
-        match error {
-            Some(error) => Some(ErrorCause { of, error }),
-            None => None,
-        }
+        Some(ErrorCause { of, error: error? })
     }
 
     /// The cause of a call of a folder that failed. `named` is the only file that such calls name, and if they move it,

@@ -11,9 +11,10 @@ ghost use Rattle.rules_tools.specs.Scratch.{AfterFault, HasFailedTwice, IsTakenA
 ghost use Rattle.rules_tools.specs.Series.{MakesSeries};
 
 use crate::folder::RulesFolder;
+use crate::path::split_path;
 use crate::steps::make_steps;
-use crate::tcprules::{TcprulesFault, read_paths, read_text};
-use dir_calls::{ClearableDir, Name};
+use crate::tcprules::{TcprulesFault, read_names, read_text};
+use dir_calls::ClearableDir;
 use rule_lines::{Limits, parse_owned};
 use rules_install::laws::decides;
 use rules_install::{FileNames, Install, InstallFault};
@@ -44,7 +45,9 @@ pub fn install_text<R: Read, D: ClearableDir>(
     }) cdb.now tmp.now result }
     ensures untouched { IsRefusal result → folder.new ≡ folder.old }
 {
-    let (_folder, names) = read_paths(alloc, cdb, tmp)?;
+    let (cdb_folder, cdb_name) = split_path(cdb);
+    let (tmp_folder, tmp_name) = split_path(tmp);
+    let names = read_names(alloc, cdb_folder == tmp_folder, cdb_name, tmp_name)?;
     install_named(alloc, reader, folder, names)
 }
 
@@ -65,22 +68,11 @@ pub fn install_named<R: Read, D: ClearableDir>(
     ensures untouched { IsRefusal result → folder.new ≡ folder.old }
     ensures of_text { PassesPaths result }
 {
-    let Ok(scratch) = names.tmp().copy(alloc) else {
-        drop(names);
-        return Err(TcprulesFault::OutOfMemory);
-    };
-    let mut install = match compile(alloc, reader, names) {
-        Ok(install) => install,
-        Err(fault) => {
-            drop(scratch);
-            return Err(fault);
-        }
-    };
+    let mut install = compile(alloc, reader, names)?;
     // a law: the file that is compiled of a text decides as the text does
     decides();
-    let outcome = install_begun(alloc, folder, &mut install, &scratch);
+    let outcome = install_begun(alloc, folder, &mut install);
     drop(install);
-    drop(scratch);
     Ok(outcome?)
 }
 
@@ -104,11 +96,9 @@ fn install_begun<D: ClearableDir>(
     alloc: Global,
     folder: &mut RulesFolder<D>,
     install: &mut Install,
-    scratch: &Name,
 ) -> Result<(), InstallFault>
     requires is_open { (installing install.old).over ≡ false }
     requires unbegun { (installing install.old).reached ≡ None }
-    requires scratch { scratch.now ≡ (installing install.old).names.tmp }
     ensures ends { EndsOnDisk result }
     ensures series { IsTrue D.honest → MakesSeries (installing install.old)
         (D.state (folder_dir folder.old)) (D.state (folder_dir folder.new)) result }
@@ -127,11 +117,9 @@ fn install_begun<D: ClearableDir>(
         (HasFailedTwice (D.failed (folder_dir folder.old)) (D.failed (folder_dir folder.new)))
         (folder_left folder.new)) result }
 {
-    // a law: the two names differ
-    install.consistent();
     let outcome = make_steps(alloc, &mut folder.dir, install);
     if is_of_disk(&outcome) {
-        folder.remove_scratch(alloc, scratch);
+        folder.remove_scratch(alloc, install.tmp());
     }
     outcome
 }

@@ -13,7 +13,6 @@ pub mod folders;
 pub mod installing;
 pub mod path;
 pub mod review;
-mod spelling;
 mod steps;
 pub mod tcprules;
 pub mod tcprulescheck;

@@ -27,6 +27,7 @@ pub(crate) fn make_steps<D: Dir>(
 ) -> Result<(), InstallFault>
     requires is_open { (installing install.old).over ≡ false }
     requires unbegun { (installing install.old).reached ≡ None }
+    ensures same { IsSame (installing install.old) (installing install.new) }
     ensures ends { EndsOnDisk result }
     ensures series { IsTrue D.honest
         → MakesSeries (installing install.old) (D.state dir.old) (D.state dir.new) result }

@@ -4,9 +4,9 @@ ghost use Rattle.byte_text.specs.NotingStream.{noted_error, noted_stream};
 ghost use Rattle.dir_calls.specs.Names.{name_fault};
 ghost use Rattle.rules_install.specs.ParseFaults.{of_parse};
 ghost use Rattle.rules_tools.specs.Causes.{failure_of, without_cause};
-ghost use Rattle.rules_tools.specs.Paths.{PathsOf};
+ghost use Rattle.rules_tools.specs.Paths.{AreNames};
 ghost use Rattle.rules_tools.specs.Rules.{told_fault};
-ghost use Rattle.rules_tools.specs.Shells.{RunsByPaths, RunsIn, RunsSpelled};
+ghost use Rattle.rules_tools.specs.Shells.{AreOne, RunsByPaths, RunsIn};
 ghost use Rattle.rules_tools.specs.declared.tcprules.TcprulesFault.TheVariants.{OutOfMemory};
 
 use crate::cause::{CauseOf, ErrorCause};
@@ -14,7 +14,6 @@ use crate::folder::RulesFolder;
 use crate::folders::InstallFolders;
 use crate::installing::install_text;
 use crate::path::{folder_path, split_path};
-use crate::spelling::respelled;
 use byte_text::NotingStream;
 use dir_calls::{Name, NameFault, Phase};
 use rule_lines::{LineFault, LineKind, ParseFault};
@@ -122,7 +121,7 @@ impl From<TcprulesFault> for RulesFailure {
 }
 
 /// Reads a rule text, compiles it, and installs the compiled file under the path `cdb`, with `tmp` as its scratch file: `install_text` over the
-/// folder of the paths. Where they spell one folder in two ways it is as `cdb` spells it.
+/// folder of the paths, which may spell it in two ways.
 ///
 /// # Errors
 /// As of `install_text`, with the cause of a fault: the error that the reader noted, or that of the disk. Where something is wrong with the paths no folder is opened.
@@ -144,39 +143,23 @@ pub fn run_tcprules<F: InstallFolders, R: Read>(
       new = folders.new;
     }) cdb.now tmp.now result }
 {
-    let spelled = respelled(alloc, folders, cdb, tmp)?;
-    match &spelled {
-        Some(path) => run_spelled(alloc, folders, reader, cdb, path.as_str()),
-        None => run_spelled(alloc, folders, reader, cdb, tmp),
-    }
-}
-
-// The same for paths that spell one folder in one way.
-fn run_spelled<F: InstallFolders, R: Read>(
-    alloc: Global,
-    folders: &mut F,
-    reader: &mut NotingStream<R>,
-    cdb: &str,
-    tmp: &str,
-) -> Result<(), RulesFailure>
-    ensures runs { RunsSpelled (record {
-      tells = F.Opened.Dir;
-      are_one = F.are_one;
-      opens = F.opens;
-      closes = F.closes;
-      input = R.remaining (noted_stream reader.old);
-      noted = noted_error reader.new;
-      old = folders.old;
-      new = folders.new;
-    }) cdb.now tmp.now result }
-{
-    let (folder, names) = read_paths(alloc, cdb, tmp)?;
+    let (folder, cdb_name) = split_path(cdb);
+    let (other, tmp_name) = split_path(tmp);
+    let one_folder = are_one(folders, folder, other);
+    let names = read_names(alloc, one_folder, cdb_name, tmp_name)?;
     drop(names);
     let dir = folders.open(alloc, folder_path(folder))?;
-    run_there(alloc, folders, dir, reader, cdb, tmp)
+    run_there(alloc, folders, dir, reader, cdb_name, tmp_name)
 }
 
-// The same in the folder of the paths, which is let go in the end.
+// Whether the folders of two paths are one, as far as that is told.
+fn are_one<F: InstallFolders>(folders: &F, folder: &str, other: &str) -> bool
+    ensures { AreOne (F.are_one folders.now) folder.now other.now result }
+{
+    folder == other || folders.are_one(folder_path(folder), folder_path(other))
+}
+
+// The run for two names in the folder of the paths, which is let go in the end.
 fn run_there<F: InstallFolders, R: Read>(
     alloc: Global,
     folders: &mut F,
@@ -194,7 +177,7 @@ fn run_there<F: InstallFolders, R: Read>(
       noted = noted_error reader.new;
       old = folders.old;
       new = folders.new;
-    }) dir cdb.now tmp.now result }
+    }) dir (record { cdb = cdb.now; tmp = tmp.now }) result }
 {
     let mut folder = RulesFolder::new(dir);
     let outcome = install_text(alloc, reader, &mut folder, cdb, tmp);
@@ -221,20 +204,19 @@ fn tell(
     Err(RulesFailure { fault, cause })
 }
 
-/// The folder of two paths, and the names in it. Names are looked at first, then folders, then whether the names are the same; want of
-/// memory is told only where nothing is wrong with them.
-pub fn read_paths<'a>(
+/// The last parts of two paths as names; `one_folder` is whether the folders of the paths are one. Names are looked at first, then folders, then
+/// whether the names are the same; want of memory is told only where nothing is wrong with them.
+pub(crate) fn read_names(
     alloc: Global,
-    cdb: &'a str,
-    tmp: &'a str,
-) -> Result<(&'a str, FileNames), TcprulesFault>
-    ensures { PathsOf cdb.now tmp.now result }
+    one_folder: bool,
+    cdb: &str,
+    tmp: &str,
+) -> Result<FileNames, TcprulesFault>
+    ensures { AreNames one_folder (record { cdb = cdb.now; tmp = tmp.now }) result }
 {
-    let (folder, cdb) = split_path(cdb);
-    let (other, tmp) = split_path(tmp);
     let cdb_name = read_name(alloc, cdb)?;
     let tmp_name = read_name(alloc, tmp)?;
-    if folder != other {
+    if !one_folder {
         return Err(TcprulesFault::OtherFolder);
     }
     if cdb == tmp {
@@ -243,7 +225,7 @@ pub fn read_paths<'a>(
     let cdb_name = cdb_name.ok_or(TcprulesFault::OutOfMemory)?;
     let tmp_name = tmp_name.ok_or(TcprulesFault::OutOfMemory)?;
     match FileNames::new(cdb_name, tmp_name) {
-        Ok(names) => Ok((folder, names)),
+        Ok(names) => Ok(names),
         Err(_) => unreachable!("the names differ"),
     }
 }

@@ -92,12 +92,6 @@ pub struct CheckFailure {
     pub cause: Option<ErrorCause>,
 }
 
-impl From<CheckFault> for CheckFailure {
-    fn from(fault: CheckFault) -> Self {
-        CheckFailure { fault, cause: None }
-    }
-}
-
 /// The same as `tell_decision`, with the cause of a fault.
 ///
 /// # Errors

@@ -1,9 +1,9 @@
 //! A disk in memory.
-ghost use Rattle.std.specs.Prelude.{◌≡◌, ◌≢◌, ◌≤◌, ◌<◌, ◌+◌, ◌^◌, Some, IfErr, IfOk, OnErr, length, map, slice_get, take, true};
+ghost use Rattle.std.specs.Prelude.{◌≡◌, ◌≤◌, ◌<◌, ◌+◌, ◌^◌, Some, OnErr, OnOk, length, map, slice_get, true};
 ghost use Rattle.std.specs.IoError.{error_kind};
 ghost use Rattle.memory_dirs.specs.Folder.{directory_of, empty_directory};
 ghost use Rattle.memory_dirs.specs.Stored.{open_length};
-ghost use Rattle.dir_disk.specs.DiskSteps.{after_write};
+ghost use Rattle.dir_disk.specs.DiskSteps.{Spoils, after_write};
 ghost use Rattle.memory_dirs.specs.Past.{left_now, past_call};
 ghost use Rattle.test_programs.specs.MemDisk.{handle_bytes, mem_disk_left_since, mem_disk_moment, mem_disk_state};
 ghost use Rattle.std.proofs.Common.{inl, refl};
@@ -60,36 +60,35 @@ fn no_memory(_: AllocError) -> io::Error
     io::Error::from(ErrorKind::OutOfMemory)
 }
 
-// Writes bytes into the scratch file from a position on, over those that stand there or at its end. The answer is how
-// many.
+// Writes bytes into the scratch file from a position on, over those that stand there, and the rest at its end.
 fn write(
     folder: &mut Folder,
     number: usize,
     size: usize,
     position: u64,
     bytes: &[u8],
-) -> io::Result<usize>
+) -> io::Result<()>
     requires last { (directory_of folder.old).scratch ≡ Some number }
     requires open { open_length (slice_get (directory_of folder.old).files number) ≡ Some size }
     requires inside { position ≤ size }
-    ensures count { IfOk result (λ n. n ≤ length bytes.now) }
-    ensures fits { IfOk result (λ n. position + n < 2 ^ 63) }
-    ensures done { IfOk result (λ n.
-        directory_of folder.new ≡ after_write position (take n bytes.now) (directory_of folder.old)) }
-    ensures failed { OnErr result (directory_of folder.new ≡ directory_of folder.old) }
-    ensures fault { IfErr result (λ error. error_kind error ≢ ErrorKind.Interrupted) }
+    ensures fits { OnOk result (position + length bytes.now < 2 ^ 63) }
+    ensures done { OnOk result
+        (directory_of folder.new ≡ after_write position bytes.now (directory_of folder.old)) }
+    ensures failed { OnErr result (Spoils (directory_of folder.old) (directory_of folder.new)) }
 {
     if position.saturating_add(bytes.len() as u64) >= 1 << 63 {
         return Err(not_opened());
     }
     let position = position as usize;
-    if position == size {
-        folder.append(number, bytes).map_err(no_memory)?;
-        return Ok(bytes.len());
+    let room = size - position;
+    if bytes.len() <= room {
+        folder.patch(number, position, bytes);
+        return Ok(());
     }
-    let count = bytes.len().min(size - position);
-    folder.patch(number, position, &bytes[..count]);
-    Ok(count)
+    let (over, rest) = bytes.split_at(room);
+    folder.patch(number, position, over);
+    folder.append(number, rest).map_err(no_memory)?;
+    Ok(())
 }
 
 impl DiskFile for MemHandle {
@@ -141,13 +140,9 @@ impl Disk for MemDisk {
 
     fn unlink(&mut self, name: &Name) -> io::Result<()> {
         let past = self.past.and(&self.folder, &None);
-        let stood = self
-            .folder
+        self.folder
             .take(self.alloc, name.as_str().as_bytes())
             .map_err(no_memory)?;
-        if !stood {
-            return Err(io::Error::from(ErrorKind::NotFound));
-        }
         self.past = past;
         Ok(())
     }
@@ -170,14 +165,14 @@ impl Disk for MemDisk {
         }
     }
 
-    fn write_at(&mut self, file: &MemHandle, position: u64, bytes: &[u8]) -> io::Result<usize> {
+    fn write_all_at(&mut self, file: &MemHandle, position: u64, bytes: &[u8]) -> io::Result<()> {
         let Some(size) = self.folder.open_length(file.number) else {
             return Err(not_opened());
         };
         let past = self.past.and(&self.folder, &None);
-        let count = write(&mut self.folder, file.number, size, position, bytes)?;
+        let outcome = write(&mut self.folder, file.number, size, position, bytes);
         self.past = past;
-        Ok(count)
+        outcome
     }
 
     fn sync(&mut self, file: &MemHandle) -> io::Result<()> {

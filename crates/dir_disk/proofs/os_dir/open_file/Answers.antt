@@ -17,7 +17,7 @@ read g c honest = c.in-Ok.ensures.read honest (c.in_ok-found.ensures.kind honest
 pub new-requires : goal.new-requires
 new-requires g c = λ files_honest.
     let honest : IsTrue g.D.Disk.honest = subst (λ known. IsTrue known) g.met.D.Disk.honest_files files_honest in
-    length_of (slice_get (g.D.Disk.state c.open.new.disk).files (g.D.Disk.number c.in-Ok.file)) (g.D.File.DiskFile.bytes c.in-Ok.file) c.in_ok-found.found.len (c.in_ok-found.ensures.length honest)
+    length_of (slice_get (g.D.Disk.state c.open.new.self).files (g.D.Disk.number c.in-Ok.file)) (g.D.File.DiskFile.bytes c.in-Ok.file) c.in_ok-found.found.len (c.in_ok-found.ensures.length honest)
     (subst (λ (d : Directory). option_map (λ file. file.bytes) (slice_get d.files (g.D.Disk.number c.in-Ok.file)) ≡ Some (g.D.File.DiskFile.bytes c.in-Ok.file)) (sym (c.open.ensures.same honest)) (read g c honest))
 
 pub returns-clause-found : goal.returns-clause-found

@@ -1,6 +1,7 @@
-use Rattle.std.proofs.Common.{◌≡◌, List, ℕ, true, sym, subst, ◌∙◌, arith}
+use Rattle.std.proofs.Common.{◌≡◌, List, ℕ, true, ap, sym, subst, ◌∙◌, arith}
 use Rattle.dir_calls.specs.Clearing.{SparesOthers}
 use Rattle.rules_install.specs.Installs.{installing}
+use Rattle.rules_install.specs.NamePair.{NamePair}
 use Rattle.rules_tools.specs.FolderParts.{folder_dir, folder_left}
 use Rattle.rules_tools.specs.Disks.{fails_on_disk}
 use Rattle.rules_tools.specs.Scratch.{AfterFault, HasFailedTwice, IsTakenAway}
@@ -14,22 +15,25 @@ returns-then-is_of_disk g c =
     let mid = c.make_steps-outcome.new.dir in
     let new = folder_dir c.remove_scratch.new.self in
     let result = c.make_steps-outcome.result in
+    let names = c.make_steps-outcome.ensures.same.names in
+    let named : c.tmp.result.now ≡ s.names.tmp = c.tmp.ensures.name ∙ ap (λ (n : NamePair). n.tmp) names in
+    let apart : c.tmp.result.now ≡ s.names.cdb → ⊥ = λ same. c.tmp.ensures.other (ap (λ (n : NamePair). n.cdb) names ∙ sym same ∙ c.tmp.ensures.name) in
     let failed : fails_on_disk result ≡ true = sym c.is_of_disk.ensures ∙ c.if-is_of_disk.true in
     record {
       ends = c.make_steps-outcome.ensures.ends;
       series = λ honest. then_series s (g.D.Dir.state old) (g.D.Dir.state mid) (g.D.Dir.state new)
-          (subst (λ (name : List ℕ). SparesOthers name (g.D.Dir.state mid) (g.D.Dir.state new)) c.requires.scratch (c.remove_scratch.ensures.others honest)) result failed
+          (subst (λ (name : List ℕ). SparesOthers name (g.D.Dir.state mid) (g.D.Dir.state new)) named (c.remove_scratch.ensures.others honest)) result failed
           (c.make_steps-outcome.ensures.series honest);
       any_moment = λ honest. then_keeps g.D.Dir s old mid new result (c.make_steps-outcome.ensures.any_moment honest) (c.make_steps-outcome.ensures.lasts honest)
-          (c.remove_scratch.ensures.stays honest s.names.cdb (λ same. c.consistent.ensures.names (sym same ∙ c.requires.scratch)));
+          (c.remove_scratch.ensures.stays honest s.names.cdb apart);
       lasts = λ honest. then_lasts g.D.Dir s old mid new result (c.make_steps-outcome.ensures.lasts honest)
-          (c.remove_scratch.ensures.stays honest s.names.cdb (λ same. c.consistent.ensures.names (sym same ∙ c.requires.scratch)));
+          (c.remove_scratch.ensures.stays honest s.names.cdb apart);
       done = λ honest. not_done _ result failed;
       written = c.make_steps-outcome.ensures.written;
       device = λ honest. c.make_steps-outcome.ensures.device honest;
       blames = blames_disk (g.D.Dir.failed old) (g.D.Dir.failed mid) (g.D.Dir.failed new) result c.remove_scratch.ensures.count c.make_steps-outcome.ensures.blames;
-      removed = λ honest. subst (λ (name : List ℕ). AfterFault (IsTakenAway name (g.D.Dir.state new) (HasFailedTwice (g.D.Dir.failed old) (g.D.Dir.failed new)) (folder_left c.remove_scratch.new.self)) result) c.requires.scratch
-          (removed_after c.args.scratch.now (g.D.Dir.state new) (g.D.Dir.failed old) (g.D.Dir.failed mid) (g.D.Dir.failed new) (folder_left c.remove_scratch.new.self)
+      removed = λ honest. subst (λ (name : List ℕ). AfterFault (IsTakenAway name (g.D.Dir.state new) (HasFailedTwice (g.D.Dir.failed old) (g.D.Dir.failed new)) (folder_left c.remove_scratch.new.self)) result) named
+          (removed_after c.tmp.result.now (g.D.Dir.state new) (g.D.Dir.failed old) (g.D.Dir.failed mid) (g.D.Dir.failed new) (folder_left c.remove_scratch.new.self)
           result (c.make_steps-outcome.ensures.device honest) c.make_steps-outcome.ensures.blames (c.remove_scratch.ensures.gone honest));
     }
 

@@ -49,6 +49,12 @@ finish-requires-clause-is_open g c = c.in_ok-begin.ensures.begun.1
 pub finish-requires-clause-fits : goal.finish-requires-clause-fits
 finish-requires-clause-fits g c = λ honest. c.in_ok-begin.ensures.fits honest
 
+pub returns-clause-same : goal.returns-clause-same
+returns-clause-same g c = record {
+  rules = c.finish.ensures.same.rules ∙ c.begin.ensures.same.rules;
+  names = c.finish.ensures.same.names ∙ c.begin.ensures.same.names;
+}
+
 pub returns-clause-ends : goal.returns-clause-ends
 returns-clause-ends g c = ends_on_disk (installing c.finish.new.install) c.finish.result c.finish.ensures.ends
 

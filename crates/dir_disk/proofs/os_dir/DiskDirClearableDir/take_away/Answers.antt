@@ -20,7 +20,7 @@ returns-clause-gone g c = λ honest.
     let s = c.args.self.now in
     let d = g.D.Disk.state s.disk in
     let m = g.D.Disk.state c.give_up.new.disk in
-    let f = g.D.Disk.state c.unlink-outcome.new.disk in
+    let f = g.D.Disk.state c.unlink-outcome.new.self in
     let p = s.pending.items in
     let q = c.clear.new.self.items in
     let name = c.args.name.now in
@@ -36,7 +36,7 @@ returns-clause-others g c = λ honest.
     let s = c.args.self.now in
     let d = g.D.Disk.state s.disk in
     let m = g.D.Disk.state c.give_up.new.disk in
-    let f = g.D.Disk.state c.unlink-outcome.new.disk in
+    let f = g.D.Disk.state c.unlink-outcome.new.self in
     let p = s.pending.items in
     let q = c.clear.new.self.items in
     let name = c.args.name.now in
@@ -52,7 +52,7 @@ returns-clause-closed g c = λ honest.
     let s = c.args.self.now in
     let d = g.D.Disk.state s.disk in
     let m = g.D.Disk.state c.give_up.new.disk in
-    let f = g.D.Disk.state c.unlink-outcome.new.disk in
+    let f = g.D.Disk.state c.unlink-outcome.new.self in
     let p = s.pending.items in
     let q = c.clear.new.self.items in
     let name = c.args.name.now in
@@ -66,19 +66,19 @@ returns-clause-stays g c = λ honest other differ contents lasts.
     let s = c.args.self.now in
     let d = g.D.Disk.state s.disk in
     let m = g.D.Disk.state c.give_up.new.disk in
-    let f = g.D.Disk.state c.unlink-outcome.new.disk in
+    let f = g.D.Disk.state c.unlink-outcome.new.self in
     let p = s.pending.items in
     let q = c.clear.new.self.items in
     let name = c.args.name.now in
     let how : AllOrNone (closed d) (without (closed d) name) f =
     unlinked c.unlink-outcome.result m (closed d) f name (c.give_up.ensures.done honest) (c.unlink-outcome.ensures.done honest) (c.unlink-outcome.ensures.failed honest) in
     let nowhere : f ≡ kept_back q f = sym (kept_nowhere f q (removal_closed g.D.Disk.number d f s.scratch s.written p name (s.holds honest) how)) in
-    let time : StepElapses g.D.Disk.state g.D.Disk.moment g.D.Disk.left_since s.disk c.unlink-outcome.new.disk =
-    step_after g.D.Disk.state g.D.Disk.moment g.D.Disk.left_since s.disk c.give_up.new.disk c.unlink-outcome.new.disk (c.give_up.ensures.time honest)
+    let time : StepElapses g.D.Disk.state g.D.Disk.moment g.D.Disk.left_since s.disk c.unlink-outcome.new.self =
+    step_after g.D.Disk.state g.D.Disk.moment g.D.Disk.left_since s.disk c.give_up.new.disk c.unlink-outcome.new.self (c.give_up.ensures.time honest)
     (λ image is. closed_from d image (subst (λ (x : Directory). IsImage x image) (c.give_up.ensures.done honest) is)) (c.unlink-outcome.ensures.time honest) in
     removal_stays _ name other contents s _ differ lasts
     (λ image left. kept_image g.D.Disk.number d s.scratch s.written p image (s.holds honest) (g.met.D.Disk.only_now s.disk image honest left))
-    (call_elapses g.D.Disk.state g.D.Disk.moment g.D.Disk.left_since s.disk c.unlink-outcome.new.disk (makes name) (kept_back p d) (kept_back q f) time
+    (call_elapses g.D.Disk.state g.D.Disk.moment g.D.Disk.left_since s.disk c.unlink-outcome.new.self (makes name) (kept_back p d) (kept_back q f) time
     (λ image is. kept_image g.D.Disk.number d s.scratch s.written p image (s.holds honest) is) (λ image is. subst (λ (x : Directory). IsImage x image) nowhere is))
     (subst (λ (x : Directory). Fails (makes name) (kept_back p d) x) nowhere (removal_fails g.D.Disk.number d f s.scratch s.written p name (s.holds honest) how))
 
