@@ -1,14 +1,14 @@
 -- Entries by their tables, and where each table stands.
-use Rattle.std.proofs.Common.{◌≡◌, ◌≢◌, ℕ, ◌+◌, ◌*◌, ◌^◌, ◌<◌, ◌≤◌, zero, suc, cond, eqb, ltb, List, [], ◌∷◌, ◌++◌, length, set, get_or, map, flat_map, ◌∙◌, ap, sym, refl, inl, inr, arith, length-set, add-one}
-use Rattle.std.specs.List.{count_by, range_with_len}
+use Rattle.std.proofs.Common.{◌≡◌, ◌≢◌, ℕ, ◌+◌, ◌*◌, ◌^◌, ◌<◌, ◌≤◌, cond, eqb, ltb, List, [], ◌∷◌, ◌++◌, length, set, get_or, map, ◌∙◌, ap, sym, refl, inl, inr, arith, length-set}
+use Rattle.std.specs.List.{count_by}
 use Rattle.std.proofs.Math.ListN.{replicate}
 use Rattle.std.proofs.lemmas.Bool.{cases_eq, cond-false, eq-eqb, le-ltb, ne_eqb}
 use Rattle.std.proofs.lemmas.Bool.Decides.{nat_tests}
-use Rattle.std.proofs.lemmas.List.{append-nil, flat_map_more, get_or-map, get_or-replicate, get_or-set_other, get_or-set_same, length-replicate, map-set, replicate-append-replicate, set-get_or}
+use Rattle.std.proofs.lemmas.List.{append-nil, get_or-map, get_or-replicate, get_or-set_other, get_or-set_same, length-replicate, map-set, replicate-append-replicate, set-get_or}
 use Rattle.std.proofs.lemmas.List.Elements.{filter-append}
 use Rattle.std.proofs.lemmas.List.Sums.{count_by-le-length, length-filter, sum_by-cons}
-use Rattle.cdb_files.specs.Format.{Pair, entries_of, records_of, two_numbers}
-use Rattle.cdb_files.specs.Image.{finished_length, image_of, pointers_of, table_position, tables_of}
+use Rattle.cdb_files.specs.Format.{Pair, entries_of, records_of}
+use Rattle.cdb_files.specs.Image.{finished_length, table_position}
 use Rattle.cdb_files.specs.Slots.{table_entries, table_of, entries_in}
 use Rattle.cdb_files.specs.Tables.{HoldsByTable}
 use Rattle.cdb_files.proofs.RecordLemmas.{length-entries_from}
@@ -53,18 +53,6 @@ pub table_position-le : (pairs : List Pair) (t : ℕ) → table_position pairs t
 table_position-le pairs t =
     omega (arith, count_by-le-length (λ (e : ℕ × ℕ). ltb (table_of e.0) t) (entries_of pairs), length-entries_from pairs 2048)
 
-range_with_len-more : (n a : ℕ) → range_with_len a (suc n) ≡ range_with_len a n ++ (a + n) ∷ []
-range_with_len-more zero a = let here : a ≡ a + 0 = omega arith in ap (λ x. x ∷ []) here
-range_with_len-more (suc n) a =
-    let last : (a + 1) + n ≡ a + suc n = omega arith in
-    ap (λ xs. a ∷ xs) (range_with_len-more n (a + 1) ∙ ap (λ x. range_with_len (a + 1) n ++ x ∷ []) last)
-
--- the pieces of one number more
-pub flat_map-range_with_len-more : (f : ℕ → List ℕ) (front : List ℕ) (n : ℕ) → (front ++ flat_map f (range_with_len 0 n)) ++ f n ≡ front ++ flat_map f (range_with_len 0 (n + 1))
-flat_map-range_with_len-more f front n =
-    let last : 0 + n ≡ n = omega arith in
-    flat_map_more f front (range_with_len 0 n) n ∙ ap (λ x. front ++ flat_map f (range_with_len 0 n ++ x ∷ [])) (sym last) ∙ ap (λ xs. front ++ flat_map f xs) (sym (range_with_len-more n 0)) ∙ ap (λ k. front ++ flat_map f (range_with_len 0 k)) (sym (add-one n))
-
 -- one list of many is written again
 pub map-set_same : {X Y : Type 0} (f : X → Y) (xs : List X) (i : ℕ) (x y : X) → x ≡ get_or xs i x → f y ≡ f x → map f (set xs i y) ≡ map f xs
 map-set_same f xs i x y here same =
@@ -96,8 +84,3 @@ table_position-zero pairs = omega (arith, none_before_zero (entries_of pairs))
 pub table_fits : (pairs : List Pair) (t : ℕ) (entries : List (ℕ × ℕ)) → finished_length pairs < 2 ^ 32 → entries ≡ table_entries t pairs → table_position pairs t + 16 * length entries < 2 ^ 32
 table_fits pairs t entries fits e =
     omega (arith, fits, ap length e, table_position-more pairs t, table_position-le pairs (t + 1))
-
--- the parts of the file, joined
-pub image_of-parts : (pairs : List Pair) (pointers : List (ℕ × ℕ)) (records head front file : List ℕ) → pointers ≡ pointers_of pairs → records ≡ records_of pairs → head ≡ flat_map two_numbers pointers → front ≡ head ++ records → file ≡ front ++ tables_of pairs → file ≡ image_of pairs
-image_of-parts pairs pointers records head front file is_pointers is_records is_head is_front is_file =
-    is_file ∙ ap (λ bytes. bytes ++ tables_of pairs) (is_front ∙ ap (λ bytes. head ++ bytes) is_records ∙ ap (λ bytes. bytes ++ records_of pairs) (is_head ∙ ap (flat_map two_numbers) is_pointers))

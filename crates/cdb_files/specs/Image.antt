@@ -1,5 +1,5 @@
 -- The pieces of the file that is written, and the file that they make.
-use Rattle.std.specs.Prelude.{ℕ, ◌+◌, ◌*◌, ◌/◌, ◌%◌, nat_lt, List, ◌++◌, map, length, set, replicate, flat_map}
+use Rattle.std.specs.Prelude.{ℕ, ◌+◌, ◌*◌, ◌/◌, ◌%◌, nat_lt, min, max, List, ◌++◌, map, length, set, replicate, flat_map}
 use Rattle.std.specs.List.{count_by, fold, position_or_len, range_with_len}
 use Rattle.cdb_files.specs.Format.{Pair, entries_of, records_of, two_numbers}
 use Rattle.cdb_files.specs.Slots.{is_empty, probe, table_entries, table_of}
@@ -49,3 +49,7 @@ image_of pairs = header_bytes (pointers_of pairs) ++ records_of pairs ++ tables_
 -- its length
 abbrev pub finished_length : List Pair → ℕ
 finished_length pairs = 2048 + records_length pairs + 16 * length pairs
+
+-- the greatest length that it may have, by a limit: one under 2,048 counts as that, and one over 4,294,967,295 as that
+abbrev pub limit_of : ℕ → ℕ
+limit_of limit = max 2048 (min limit 4294967295)

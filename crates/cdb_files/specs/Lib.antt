@@ -6,7 +6,6 @@ pub mod IsCdb
 pub mod Image
 pub mod Written
 pub mod Tables
-pub mod Making
 pub mod Compiled
 pub mod Parts
 pub mod Reading

@@ -1,8 +1,7 @@
 -- Entries that are held by their tables.
-use Rattle.std.specs.Prelude.{◌≡◌, ℕ, ◌+◌, ◌^◌, ◌<◌, List, [], ◌∷◌, ◌++◌, length, flat_map, slice_index_or}
-use Rattle.std.specs.List.{range_with_len}
+use Rattle.std.specs.Prelude.{◌≡◌, ℕ, ◌+◌, ◌^◌, ◌<◌, List, [], ◌∷◌, ◌++◌, length, slice_index_or}
 use Rattle.cdb_files.specs.Format.{Pair, entries_of}
-use Rattle.cdb_files.specs.Image.{finished_length, pointers_of, records_length, table_bytes}
+use Rattle.cdb_files.specs.Image.{finished_length, pointers_of, records_length}
 use Rattle.cdb_files.specs.Slots.{entries_in}
 
 -- 256 lists hold the entries by their tables, each in order
@@ -24,9 +23,3 @@ ArePointers lists first pointers = (pairs : List Pair) → AreTablesOf pairs lis
 abbrev pub AddsEntry : ℕ × ℕ → List (List (ℕ × ℕ)) → List (List (ℕ × ℕ)) → Type 0
 AddsEntry entry old new =
     (entries : List (ℕ × ℕ)) → HoldsByTable old entries → HoldsByTable new (entries ++ entry ∷ [])
-
--- bytes with all tables at their end
-abbrev pub AppendsTables : List (List (ℕ × ℕ)) → List ℕ → List ℕ → Type 0
-AppendsTables lists old new =
-    (entries : List (ℕ × ℕ)) → HoldsByTable lists entries
-    → new ≡ old ++ flat_map (λ t. table_bytes (entries_in t entries)) (range_with_len 0 256)

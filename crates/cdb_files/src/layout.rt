@@ -1,6 +1,6 @@
 //! The lengths of a compiled file's parts, and its limit.
 ghost use Rattle.std.specs.Prelude.{◌≡◌};
-ghost use Rattle.cdb_files.specs.Making.{limit_of};
+ghost use Rattle.cdb_files.specs.Image.{limit_of};
 
 /// The length of the pointers, with which a file begins.
 pub const HEADER_LENGTH: usize = 2048;

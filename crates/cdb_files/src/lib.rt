@@ -3,7 +3,7 @@
 //!
 //! `rules_install` uses the pieces (`append_record`, `table_piece`, `header`) and writes one after another. By
 //! `laws::pieces` the joined pieces are a compiled file of the pairs, if it fits into 32 bits; by `laws::same_file`
-//! there is one such file. `Maker` makes the file whole in memory. No tool uses it: tests do.
+//! there is one such file.
 //!
 //! The crates above use `CdbFile`, a source of pairs for `rule_lookup::decide`. On any bytes a lookup finds what the
 //! definition says: an instruction, nothing, or damage. That is promised of files with honest reads; of a file of the system
@@ -16,7 +16,6 @@ pub mod cdb_file;
 pub mod key_hash;
 pub mod laws;
 pub mod layout;
-pub mod maker;
 pub mod piece;
 mod slot;
 mod stage;
@@ -26,6 +25,5 @@ mod window;
 pub use append::append_record;
 pub use cdb_file::CdbFile;
 pub use key_hash::hash;
-pub use maker::{AddFault, Maker};
 pub use piece::{header, table_piece};
 pub use tables::Tables;

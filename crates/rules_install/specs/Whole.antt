@@ -5,8 +5,7 @@ use Rattle.dir_calls.specs.Lasting.{HasAmong, LastsAmong}
 use Rattle.dir_calls.specs.Moments.{LeavesOnly}
 use Rattle.dir_calls.specs.declared.fault.DirFault.TheVariants.{Device}
 use Rattle.dir_calls.specs.declared.dir.Dir.{Ghosts}
-use Rattle.cdb_files.specs.Image.{finished_length}
-use Rattle.cdb_files.specs.Making.{limit_of}
+use Rattle.cdb_files.specs.Image.{finished_length, limit_of}
 use Rattle.cdb_files.specs.Compiled.{stored}
 use Rattle.cdb_files.specs.Reading.{reading}
 use Rattle.rule_lines.specs.Faults.{IsAccepted, Refuses}

@@ -1,7 +1,6 @@
 //! An installation, step by step.
 ghost use Rattle.std.specs.Prelude.{◌≡◌, ◌≢◌, ◌^◌, ◌≤◌, ◌<◌, ◌⊎◌, ◌||◌, length, IsTrue, true, false, None, Some, is_some, IfOk, IfErr, OnOk};
-ghost use Rattle.cdb_files.specs.Image.{finished_length, header_bytes, pointers_of};
-ghost use Rattle.cdb_files.specs.Making.{limit_of};
+ghost use Rattle.cdb_files.specs.Image.{finished_length, header_bytes, limit_of, pointers_of};
 ghost use Rattle.cdb_files.specs.Compiled.{stored};
 ghost use Rattle.rules_install.specs.Filled.{IsWritten, blank_file};
 ghost use Rattle.rules_install.specs.Pieces.{IsLeft};

@@ -1,8 +1,7 @@
 //! The pieces of which a compiled file is made.
 ghost use Rattle.std.specs.Prelude.{◌≡◌, ◌⊎◌, ◌↔◌, ◌<◌, ◌≤◌, List, [], IsTrue, IfOk, IfErr, OnErr, OnOk};
 ghost use Rattle.cdb_files.specs.Format.{entries_of};
-ghost use Rattle.cdb_files.specs.Image.{finished_length, pointers_of, header_bytes};
-ghost use Rattle.cdb_files.specs.Making.{limit_of};
+ghost use Rattle.cdb_files.specs.Image.{finished_length, limit_of, pointers_of, header_bytes};
 ghost use Rattle.cdb_files.specs.Tables.{HoldsByTable};
 ghost use Rattle.cdb_files.specs.Compiled.{stored};
 ghost use Rattle.rule_lookup.specs.Pairs.{Rule};

@@ -7,8 +7,7 @@ use Rattle.dir_calls.specs.Lasting.{LastsAmong}
 use Rattle.dir_calls.specs.Names.{name_fault}
 use Rattle.dir_calls.specs.declared.fault.DirFault.{DirFault}
 use Rattle.dir_calls.specs.declared.fault.DirFault.TheVariants as dir
-use Rattle.cdb_files.specs.Image.{finished_length}
-use Rattle.cdb_files.specs.Making.{limit_of}
+use Rattle.cdb_files.specs.Image.{finished_length, limit_of}
 use Rattle.cdb_files.specs.Compiled.{Compiled, stored}
 use Rattle.cdb_files.specs.Reading.{reading}
 use Rattle.rule_lines.specs.Faults.{IsAccepted, Refuses, fault_of}

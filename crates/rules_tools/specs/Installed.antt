@@ -4,8 +4,7 @@ use Rattle.dir_calls.specs.Directory.{Directory, content}
 use Rattle.dir_calls.specs.declared.fault.DirFault.{DirFault}
 use Rattle.dir_calls.specs.declared.fault.DirFault.TheVariants.{Device as DeviceFault}
 use Rattle.dir_calls.specs.declared.dir.Dir.{Ghosts}
-use Rattle.cdb_files.specs.Image.{finished_length}
-use Rattle.cdb_files.specs.Making.{limit_of}
+use Rattle.cdb_files.specs.Image.{finished_length, limit_of}
 use Rattle.cdb_files.specs.Compiled.{Compiled, stored}
 use Rattle.rule_lines.specs.Faults.{IsAccepted, fault_of}
 use Rattle.rule_lookup.specs.Pairs.{pairs_of}

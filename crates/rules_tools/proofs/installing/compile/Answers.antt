@@ -1,8 +1,7 @@
 use Rattle.std.proofs.Common.{◌<◌, ◌≤◌, ⊎_elim, sym, subst, ap, ◌∙◌}
 use Rattle.std.specs.Prelude.{Err}
 use Rattle.std.proofs.lemmas.Result.{err_from_is_err_and}
-use Rattle.cdb_files.specs.Image.{finished_length}
-use Rattle.cdb_files.specs.Making.{limit_of}
+use Rattle.cdb_files.specs.Image.{finished_length, limit_of}
 use Rattle.cdb_files.specs.Compiled.{stored}
 use Rattle.rules_install.specs.Installing.{begun}
 use Rattle.rules_install.specs.Installs.{installing}
