@@ -179,9 +179,9 @@ class Calls:
             return "" if is_right else "a line was not taken: %r" % told
         if len(changed) > 1 or not told[-1].is_ample():
             return "%d connections changed: %r" % (len(changed), changed)
-        if changed and error in (None, "EINTR") and run.environment["FAILED_CALL"] not in TOLD_INTERRUPTED:
+        if changed and error in (None, "EINTR") and run.call not in TOLD_INTERRUPTED:
             return "an interrupted call, or one of a byte, changed %r" % changed
-        if changed and not self.may_change(changed[0], run.environment["FAILED_CALL"], forms):
+        if changed and not self.may_change(changed[0], run.call, forms):
             return "it changed %r" % changed
         self.count(changed[0].lines[-2] if changed and len(changed[0].lines) > 1 else "nothing")
         return self.left(server)

@@ -346,21 +346,20 @@ def no_memory_for_a_while(suite):
 
 
 def many_without_memory(suite):
-    """A hundred and twenty clients in succession for whom there is no memory are no faults of accepting: the server lives."""
-    library = failed_calls.Library(suite.folder)
-    run = library.run_while("memory", "ENOMEM")
-    with suite.start(["-v"], ECHO, env=dict(run.environment, PATH=os.environ["PATH"])) as server:
-        suite.expect("before many clients without memory", server.ask(b"a\n"), b"a\n")
-        run.turn(True)
-        met = 0
-        while met < 120 and server.process.poll() is None:
-            try:
-                server.ask(b"a\n")
-            except OSError:
-                break
-            met += 1
-        run.turn(False)
-        suite.expect("clients without memory until the server ends, and its last line", (met, server.lines()[-1]), (120, "out of memory"))
+    """A hundred and fifty clients in succession for whom there is no memory are no faults of accepting, and none of those that -k counts. Each has its line
+    at each level but -q, whether the server is called as `tcpserver` or not."""
+    library, line = failed_calls.Library(suite.folder), b"tcpserver: out of memory\n"
+    for command in (suite.command, suite.by_name()):
+        for level, told in (("-v", line), ("-Q", line), ("-q", b"")):
+            run = library.run_while("memory", "ENOMEM")
+            with suite.start([level, "-k", "2"], ECHO, command=command, env=dict(run.environment, PATH=os.environ["PATH"])) as server:
+                suite.expect("before many clients without memory", server.ask(b"a\n"), b"a\n")
+                run.turn(True)
+                suite.expect("many clients without memory", [server.ask(b"a\n") for _ in range(150)], [b""] * 150)
+                run.turn(False)
+                suite.expect("the last client, and the end", (server.ask(b"a\n"), server.end()), (b"a\n", 0))
+                found = b"".join(one for one in server.log().splitlines(True) if level != "-v" or one == line)
+                suite.expect("the lines of many clients without memory under %s" % level, found, 150 * told)
 
 
 def beside_a_long_connection(suite):

@@ -275,6 +275,59 @@ def failed_threads(suite):
             suite.audit("thread %d refused" % number, server)
 
 
+# a program that closes its output and runs on, and one that then ends once its client sends a line
+RUNS_ON, WAITS_FOR_A_LINE = ["sh", "-c", "exec >&-; exec sleep 1000"], ["sh", "-c", "exec >&-; read a; exit 7"]
+# the calls of a server for a program: one wait, and all that it makes
+ONE_WAIT, THREE_WAITS = ["waitpid"], ["waitpid", "kill", "waitpid", "kill", "waitpid"]
+
+
+def rounds_of_waits(suite):
+    """A program is waited for up to three times, and killed before the second and the third. The log has what the last wait answered. If none of them
+    did, the program keeps its place for good, and a server without free places ends. The system's word that there is no such program is the last."""
+    library, signalled, ended, retired = failed_calls.Library(suite.folder), ["end 1 status signal"], ["end 1 status 7"], ["retired 1"]
+    cases = [
+        ("no wait fails", 0, False, WAITS_FOR_A_LINE, ended, ONE_WAIT), ("the first wait fails", 1, False, RUNS_ON, signalled, THREE_WAITS[:3]),
+        ("two waits fail", 2, False, RUNS_ON, signalled, THREE_WAITS), ("two waits and all kills fail", 2, True, WAITS_FOR_A_LINE, ended, THREE_WAITS),
+        ("three waits fail", 3, False, RUNS_ON, retired, THREE_WAITS), ("three waits and all kills fail", 3, True, WAITS_FOR_A_LINE, retired, THREE_WAITS),
+    ]
+    # one that is pumped has ended before it is waited for
+    cases += [] if suite.handed else [("two waits for a program that ended fail", 2, False, ["sh", "-c", "exit 7"], ended, THREE_WAITS)]
+    for error in ("EIO", "ENOMEM"):
+        for name, waits, kills_fail, program, lines, calls in cases:
+            run = library.run("waitpid", error, 1, waits).noting("waitpid", "kill")
+            waited_for(suite, "%s, %s" % (name, error), run.also("kill", "EPERM") if kills_fail else run, program, lines, calls)
+    waited_for(suite, "no such program", library.run("waitpid", "ECHILD", 1).noting("waitpid", "kill"), WAITS_FOR_A_LINE, retired, ONE_WAIT)
+    one_of_two(suite, library.run("waitpid", "EIO", 1, 3).noting("waitpid", "kill"))
+
+
+def waited_for(suite, name, run, program, wanted, calls):
+    """A server of one client with one place, and without an end after that: its lines behind the verdict, its exit code and its calls."""
+    last = ["status: 1/1" if wanted == ["retired 1"] else "status: 0/1"]
+    for options, code, end in ((["-k", "1"], 0, []), ([], 111, ["no places left"])):
+        if code and last != ["status: 1/1"]:
+            continue
+        with suite.start(["-v", "-c", "1"] + options, program, env=dict(os.environ, **run.environment)) as server:
+            server.ask(b"a line\n")
+            suite.expect("%s under %r" % (name, options), (server.end(), server.lines()[4:]), (code, wanted + last + end))
+            suite.expect("its waits and kills", run.noted(), calls)
+            suite.audit(name, server)
+        run.end()
+
+
+def one_of_two(suite, run):
+    """A place of two that is given up: the other one serves on, and the server ends at its count."""
+    with suite.start(["-v", "-c", "2", "-k", "4"], ["sh", "-c", "read a; exit 7"], env=dict(os.environ, **run.environment)) as server:
+        for line in ("retired 1", "end 2 status 7", "end 3 status 7", "end 4 status 7"):
+            server.ask(b"a line\n")
+            server.wait_line(line)
+        told = [line for line in server.lines() if not line.startswith(("pid ", "ok "))]
+        wanted = ["status: 0/2", "status: 1/2", "retired 1", "status: 1/2"]
+        wanted += [line for serial in (2, 3, 4) for line in ("status: 2/2", "end %d status 7" % serial, "status: 1/2")]
+        suite.expect("one of two places given up", (server.end(), told), (0, wanted))
+        suite.expect("its waits and kills", run.noted(), THREE_WAITS + 3 * ONE_WAIT)
+        suite.audit("one of two places given up", server)
+
+
 def missing_descriptors(suite):
     """A server that was started without a standard descriptor: no client gets what is not its own."""
     for closed in ("<&-", "2>&-", "<&- 2>&-"):
@@ -306,6 +359,19 @@ def lost_log(suite):
         with socket.create_connection(("127.0.0.1", port), server_runs.WAIT) as client:
             got.append(read_all(client))
     suite.expect("a lost log", (got, process.wait(server_runs.WAIT)), ([b"hi\n"] * 3, 0))
+
+
+def full_log(suite):
+    """Where the log takes no more the server goes on; of a line that is not taken as a whole the log has the beginning."""
+
+    def at_most_ten_bytes():
+        signal.signal(signal.SIGXFSZ, signal.SIG_IGN)
+        resource.setrlimit(resource.RLIMIT_FSIZE, (10, 10))
+
+    for level, program, wanted in (("-v", "echo", b"tcpserver:"), ("-Q", "/nonexistent", b"tcpserver:"), ("-q", "echo", b"")):
+        with suite.start([level, "-k", "3"], [program, "hi"], preexec_fn=at_most_ten_bytes) as server:
+            got = [server.ask() for _ in range(3)]
+            suite.expect("a full log under %s" % level, (got, server.end(), server.log()), ([b"hi\n" if program == "echo" else b""] * 3, 0, wanted))
 
 
 def log_that_does_not_block(suite):
@@ -340,10 +406,10 @@ def log_that_does_not_block(suite):
 
 CHECKS = [
     terminated, descriptors_of_programs, signals_of_programs, folders_of_programs, errors_of_programs, nothing_left, few_descriptors, no_descriptors,
-    failed_accepts, failed_threads, missing_descriptors, lost_log, log_that_does_not_block,
+    failed_accepts, failed_threads, rounds_of_waits, missing_descriptors, lost_log, full_log, log_that_does_not_block,
 ]
 COMMON = [terminated, descriptors_of_programs, signals_of_programs, folders_of_programs, errors_of_programs, nothing_left]
 HANDED = [
     terminated, descriptors_of_programs, signals_of_programs, folders_of_programs, errors_of_programs, nothing_left, few_descriptors, failed_accepts,
-    failed_threads, missing_descriptors, lost_log,
+    failed_threads, rounds_of_waits, missing_descriptors, lost_log, full_log,
 ]

@@ -58,14 +58,6 @@ def mode_under(suite, options, command=None):
         return Given(client).mode()
 
 
-def linked(suite, name="tcpserver"):
-    """The path of a link to the program."""
-    path = suite.path(name)
-    if not os.path.lexists(path):
-        os.symlink(suite.program, path)
-    return path
-
-
 # the words, and how the program gets its connection under them; where nothing is said, the name decides
 SPELLINGS = [
     ([], None), (["-v"], None), (["-s"], OVER), (["-S"], PUMPED), (["-s", "-S"], PUMPED), (["-S", "-s"], OVER), (["-sS"], PUMPED),
@@ -78,7 +70,7 @@ SPELLINGS = [
 
 def spellings(suite):
     """Each way to say who holds the connection, by the name `tcpserver` and as the first word of `ucspi`."""
-    link, other = linked(suite), linked(suite, "other")
+    link, other = suite.linked(), suite.linked("other")
     for options, wanted in SPELLINGS:
         suite.expect("ucspi tcpserver %r" % options, mode_under(suite, options), wanted or PUMPED)
         suite.expect("tcpserver %r" % options, mode_under(suite, options, [link]), wanted or OVER)
@@ -93,7 +85,7 @@ def spellings(suite):
 
 def wrappers(suite):
     """A connection that is handed over has no wrappers: `-w` and a last `-s` are refused, where wrappers are looked at."""
-    link, serve = linked(suite), ["127.0.0.1", "0", "true"]
+    link, serve = suite.linked(), ["127.0.0.1", "0", "true"]
     words = [
         ["-s", "-w", "addcr"], ["-w", "addcr", "-s"], ["-w", "addcr", "-S", "-s"], ["-S", "-s", "-w", "recordio"], ["-sw", "recordio"],
         ["-w", "recordio", "-Ss"], ["-s", "-w", "x"], ["-s", "-w", ""],

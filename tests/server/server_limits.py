@@ -3,13 +3,15 @@ ends.
 
 The programs count themselves, in a table that they share (`server_child.c`).
 """
+import collections
 import contextlib
 import os
+import shutil
 import socket
 import threading
 import time
 
-from shared import log_forms, server_runs
+from shared import failed_calls, log_forms, server_runs
 from shared.clients import Pool
 from shared.server_runs import counted, read_all
 
@@ -75,6 +77,68 @@ def many_connections(suite):
         suite.expect("programs that ran, and those still running", (ran, running), (clients.served + 40, 0))
         events = suite.audit("two thousand connections", server, 3)
         suite.expect("served and closed by the log", (events.admitted, events.full), (clients.served + 40, clients.closed + 1))
+
+
+class Enders(Pool):
+    """Clients each of which has its program end in a way of its own. Of each: the lines that a log has of it, as far as the client can know them."""
+
+    def __init__(self, server, sources, most=CLIENTS):
+        super().__init__(server, list(enumerate(sources)), most)
+        self.lock = threading.Lock()
+        self.lives, self.amiss = [], []
+
+    def serve(self, task):
+        number, source = task
+        end = "signal" if number % 11 == 10 else str(number % 10)
+        try:
+            port, answer = self.server.talk(end.encode() + b"\n", source, hold=HOLD)
+        except OSError as fault:
+            self.amiss.append(repr(fault))
+            return
+        life = "pid from %s" % source, "ok :127.0.0.1:%d :%s::%d" % (self.server.port, source, port)
+        if answer:
+            life += "runs process %d" % int(answer), "end status " + end
+        with self.lock:
+            self.lives.append(life)
+
+
+def lives_in(lines):
+    """The lines of each connection in their order, by its serial number, without that number."""
+    lives = {}
+    for line in lines:
+        word, serial, *rest = line.split(" ")
+        if word in ("pid", "ok", "runs", "end", "retired", "start"):
+            lives[int(serial)] = lives.get(int(serial), ()) + (" ".join([word] + rest),)
+    return lives
+
+
+def left_of(some, others):
+    """Those of some that are not among others, as often as they are not."""
+    return sorted((collections.Counter(some) - collections.Counter(others)).elements())
+
+
+def many_ends(suite):
+    """Two thousand connections at `-c 40 -m 3` that end in many ways: by a status or a signal that the client chose, without a program, and with a place
+    that is given up. The log has one life of each, with the process and the end that its client knows of."""
+    run = failed_calls.Library(suite.folder).run("waitpid", "ECHILD", 100, 900, 100)
+    for first, error in ((30, "ENOENT"), (60, "EACCES"), (90, "ENOMEM")):
+        run.also("posix_spawn", error, first, step=90)
+    program = [shutil.which("sh"), "-c", "echo $$; read end; test $end = signal && kill -9 $$; exit $end"]
+    with suite.start(["-v", "-c", "40", "-m", "3"], program, command=suite.by_name(), env=dict(os.environ, **run.environment)) as server:
+        clients = Enders(server, sources_of(CONNECTIONS, 7)).start().finish()
+        server_runs.wait_until("the last end", lambda: server.live() == 9, moves=server.written)
+        events = suite.audit("many ends", server, 3)
+        lives = lives_in(server.all_lines())
+    suite.expect("what clients got besides", (clients.amiss, len(clients.lives)), ([], CONNECTIONS))
+    suite.expect("serial numbers in their order", list(lives), list(range(1, events.admitted + 1)))
+    ran, others = ([life for life in lives.values() if life[2].startswith("runs ") == runs] for runs in (True, False))
+    served, closed = ([life for life in clients.lives if len(life) == length] for length in (4, 2))
+    given_up = left_of(ran, served)
+    suite.expect("ends that are not those that clients chose", given_up, [life[:3] + ("retired",) for life in left_of(served, ran)])
+    suite.expect("places that are given up", len(given_up), 9)
+    suite.expect("lives without a program", {life[2:] for life in others}, {("start not found",), ("start refused",), ("start out of memory",)})
+    suite.expect("those whose clients got something", left_of([life[:2] for life in others], closed), [])
+    suite.expect("clients without a program", len(closed), len(others) + events.full)
 
 
 def many_connections_of_all(suite):
@@ -264,7 +328,7 @@ def many_at_once(suite):
 
 CHECKS = [
     two_at_once, one_after_another, gate, counts, counts_in_a_crowd, counts_of_full_addresses, full_before_the_address, places_come_back, many_connections,
-    many_connections_of_all, many_at_once,
+    many_ends, many_connections_of_all, many_at_once,
 ]
 COMMON = [one_after_another, gate, many_connections_of_all, many_at_once]
 HANDED = CHECKS

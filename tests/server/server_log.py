@@ -2,6 +2,7 @@
 import os
 import re
 import signal
+import socket
 import subprocess
 import sys
 import tempfile
@@ -183,6 +184,197 @@ def levels(suite):
             suite.expect("an address that is full under %r" % options, (server.end(), sorted(set(server.lines()))), (0, wanted))
 
 
+# All lines of a server that meets one fault after another, and in front of each where it is told: under -v; under -Q too; or at every level. A cause is
+# told under -Q if the server is called as `tcpserver`, and a hint under no level otherwise; what is for a person is told under -v, and only by one that
+# is called so. The bytes are spelled here, but for ports and the numbers of processes.
+EACH_LINE = """
+person listening on 127.0.0.1:{port}
+-v     status: 0/2
+-v     status: 1/2
+-v     pid 1 from 127.0.0.1
+-v     deny 1 mail.example:127.0.0.1:{port} :127.0.0.1::{peers[1]}
+hint   cause: lines.cdb: No such file or directory
+-v     status: 0/2
+-v     status: 1/2
+-v     pid 2 from 127.0.0.2
+-v     ok 2 mail.example:127.0.0.1:{port} relay.example:127.0.0.2::{peers[2]}
+person runs 2 process {processes[2]}
+-v     end 2 status 0
+-v     status: 0/2
+-v     status: 1/2
+-v     pid 3 from 127.0.0.3
+-v     ok 3 mail.example:127.0.0.1:{port} :127.0.0.3::{peers[3]}
+person runs 3 process {processes[3]}
+-v     end 3 status signal
+person cause: 3: signal 9
+-v     status: 0/2
+-v     status: 1/2
+-v     pid 4 from 127.0.0.4
+-v     ok 4 mail.example:127.0.0.1:{port} :127.0.0.4::{peers[4]}
+person runs 4 process {processes[4]}
+-Q     drop 127.0.0.4 address full
+-v     end 4 status 255
+-v     status: 0/2
+-v     status: 1/2
+-v     pid 5 from 127.0.0.5
+-v     deny 5 mail.example:127.0.0.1:{port} :127.0.0.5::{peers[5]}
+-v     status: 0/2
+-v     status: 1/2
+-v     pid 6 from 127.0.0.6
+-v     ok 6 mail.example:127.0.0.1:{port} :127.0.0.6::{peers[6]}
+-Q     start 6 refused
+cause  cause: ./lines-program: Permission denied
+-v     status: 0/2
+-v     status: 1/2
+-v     pid 7 from 127.0.0.7
+-v     ok 7 mail.example:127.0.0.1:{port} :127.0.0.7::{peers[7]}
+-Q     start 7 not found
+cause  cause: ./lines-program: No such file or directory
+-v     status: 0/2
+-v     status: 1/2
+-v     pid 8 from 127.0.0.8
+-Q     drop 8 rules damaged
+hint   cause: lines.cdb: damaged, or not compiled by tcprules
+-v     status: 0/2
+-v     status: 1/2
+-v     pid 9 from 127.0.0.9
+-Q     drop 9 rules damaged
+hint   cause: lines.cdb: damaged, or not compiled by tcprules
+cause  cause: 127.: damaged rule
+-v     status: 0/2
+-v     status: 1/2
+-v     pid 10 from 127.0.0.10
+-Q     drop 10 directory fault
+cause  cause: lines.cdb: Is a directory
+-v     status: 0/2
+-v     status: 1/2
+-v     pid 11 from 127.0.0.11
+-v     ok 11 mail.example:127.0.0.1:{port} :127.0.0.11::{peers[11]}
+person runs 11 process {processes[11]}
+-Q     retired 11
+-v     status: 1/2
+-v     status: 2/2
+-v     pid 12 from 127.0.0.12
+-v     ok 12 mail.example:127.0.0.1:{port} :127.0.0.12::{peers[12]}
+person runs 12 process {processes[12]}
+-Q     retired 12
+-v     status: 2/2
+-q     no places left
+"""
+# the same of a server whose rules have names that no client has
+NAMED_RULES = """
+person listening on 127.0.0.1:{port}
+-v     rules by name, and no names
+-v     status: 0/2
+-v     status: 1/2
+-v     pid 1 from 127.0.0.1
+-v     ok 1 mail.example:127.0.0.1:{port} :127.0.0.1::{peers[1]}
+person runs 1 process {processes[1]}
+-v     end 1 status 7
+-v     status: 0/2
+"""
+# where each kind of line is told, by one that is called as `ucspi tcpserver` and by one that is called as `tcpserver`
+TOLD = {
+    "-v": (["-v"], ["-v"]), "-Q": (["-v", "-Q"], ["-v", "-Q"]), "-q": (["-v", "-Q", "-q"], ["-v", "-Q", "-q"]),
+    "cause": (["-v"], ["-v", "-Q"]), "hint": ([], ["-v", "-Q"]), "person": ([], ["-v"]),
+}
+# it tells its number, and does what its client wants
+LINES_PROGRAM = "#!/bin/sh\necho $$\nread order\neval $order\n"
+
+
+class Voiced:
+    """A server that is called as `tcpserver` or not, at a level. Its clients come one after another, each from an address of its own."""
+
+    def __init__(self, suite, named, level, options, **how):
+        self.suite, self.named, self.level = suite, named, level
+        options = [level, "-c", "2", "-l", "mail.example", "-x", "lines.cdb"] + options
+        self.server = suite.start(options, ["./lines-program"], command=suite.by_name() if named else suite.command, **how)
+        # by serial number: a client's port, and what the program told of itself
+        self.peers, self.processes = [""], [""]
+
+    def is_told(self, kind):
+        return self.level in TOLD[kind][self.named]
+
+    def wait_for(self, kind, line):
+        """Waits for a line that begins so, if one of its kind is told."""
+        if self.is_told(kind):
+            server_runs.wait_until(line, lambda: any(told.startswith(line) for told in self.server.all_lines()))
+
+    def client(self):
+        """The connection of the next client."""
+        client = self.server.connect("127.0.0.%d" % len(self.peers))
+        self.peers.append(client.getsockname()[1])
+        return client
+
+    def ask(self, order, kind, line):
+        """The next client gives an order to its program, and the line that tells its end is waited for."""
+        with self.client() as client:
+            client.sendall(order)
+            client.shutdown(socket.SHUT_WR)
+            self.processes.append(read_all(client).decode().strip())
+        self.wait_for(kind, line)
+
+    def ended(self, name, lines, code):
+        """The server ends with this code, and has told these lines."""
+        kinds = [line.split(maxsplit=1) for line in lines.strip().split("\n")]
+        told = "".join("tcpserver: %s\n" % line for kind, line in kinds if self.is_told(kind))
+        wanted = told.format(port=self.server.port, peers=self.peers, processes=self.processes)
+        name = "%s under %s, called as %s" % (name, self.level, "tcpserver" if self.named else "ucspi")
+        self.suite.expect(name, (self.server.end(), self.server.log().decode()), (code, wanted))
+
+
+def each_line(suite):
+    """Each line of a log, byte by byte, at each level and in both voices."""
+    program, rules = suite.path("lines-program", LINES_PROGRAM), suite.path("lines.cdb")
+    for named in (False, True):
+        for level in ("-v", "-Q", "-q"):
+            os.chmod(program, 0o755)
+            many_faults(suite, named, level, program, rules)
+            suite.install("=a.example:deny\n:allow\n", "lines.cdb")
+            server = Voiced(suite, named, level, ["-k", "1"])
+            server.ask(b"exit 7\n", "-v", "end 1 status 7")
+            server.ended("rules by name", NAMED_RULES, 0)
+            os.unlink(rules)
+
+
+def many_faults(suite, named, level, program, rules):
+    """A server that meets one fault after another."""
+    run = failed_calls.Library(suite.folder).run_while("waitpid", "ECHILD")
+    table = suite.path("lines-hosts", "127.0.0.2 relay.example\n")
+    server = Voiced(suite, named, level, ["-m", "1", "-N", table], env=dict(os.environ, **run.environment))
+    server.ask(b"", "hint", "cause: lines.cdb: No such file or directory")
+    suite.install("127.0.0.5:deny\n:allow\n", "lines.cdb")
+    server.ask(b"exit 0\n", "-v", "end 2 status 0")
+    server.ask(b"kill -9 $$\n", "-v", "end 3 status signal")
+    with server.client() as client:
+        server.processes.append(client.recv(100).decode().strip())
+        server.wait_for("person", "runs 4 process " + server.processes[4])
+        suite.expect("a second client", server.server.ask(source="127.0.0.4"), b"")
+        client.sendall(b"exit 255\n")
+        read_all(client)
+    server.wait_for("-v", "end 4 status 255")
+    server.ask(b"", "-v", "deny 5 ")
+    os.chmod(program, 0o644)
+    server.ask(b"", "-Q", "start 6 refused")
+    os.rename(program, program + ".away")
+    server.ask(b"", "-Q", "start 7 not found")
+    os.rename(program + ".away", program)
+    os.chmod(program, 0o755)
+    suite.path("lines.cdb", one_rule()[:2073])
+    server.ask(b"", "-Q", "drop 8 rules damaged")
+    suite.path("lines.cdb", compiled_files.cdb([(b"127.", b"x")]))
+    server.ask(b"", "-Q", "drop 9 rules damaged")
+    os.unlink(rules)
+    os.mkdir(rules)
+    server.ask(b"", "-Q", "drop 10 directory fault")
+    os.rmdir(rules)
+    suite.install(":allow\n", "lines.cdb")
+    run.turn(True)
+    server.ask(b"exit 3\n", "-Q", "retired 11")
+    server.ask(b"exit 4\n", "-Q", "retired 12")
+    server.ended("one fault after another", EACH_LINE, 111)
+
+
 def burst_client(server, source, order, came):
     """A client that asks its program for an end, or resets first; it adds itself to those that have come."""
     try:
@@ -341,7 +533,7 @@ def plain_log(suite):
 
 
 CHECKS = [
-    plain_log, ends, start_faults, denied, dropped, lost_banner, address_full, retired, fields, levels, bursts, audits, audits_of_ends,
+    plain_log, ends, start_faults, denied, dropped, lost_banner, address_full, retired, fields, levels, each_line, bursts, audits, audits_of_ends,
 ]
 COMMON = [plain_log]
-HANDED = [plain_log, ends, start_faults, denied, dropped, lost_banner, address_full, retired, levels, bursts]
+HANDED = [plain_log, ends, start_faults, denied, dropped, lost_banner, address_full, retired, levels, each_line, bursts]

@@ -1,9 +1,11 @@
-/* A library to load before the C library: it fails calls of a program, those of one name that have certain numbers.
+/* A library to load before the C library: it fails calls of a program, those of some names that have certain numbers.
 
-   FAILED_CALL is the name of a call below, or `memory`: malloc, calloc, realloc and posix_memalign together. FAILED_FIRST and FAILED_LAST are the
-   first and the last number that fail, counted from 1 over all threads, and FAILED_STEP how far they stand apart; each of the number FAILED_SPARED, twice
-   it and so on does not. FAILED_ERROR is the error, and 0 has a read or a write take one byte. While FAILED_WHILE names a file that is there, each of these calls fails instead. Where a call fails, its
-   number and its first descriptor (-1 where it has none) are added to the file FAILED_MARK. Programs that are started meet none of this. */
+   FAILED_CALLS has rules, each in a line: the name of a call below, or `memory`: malloc, calloc, realloc and posix_memalign together; the error, where 0
+   has a read or a write take one byte; the first and the last number that fail, counted from 1 over all threads; how far they stand apart; a number of
+   which no multiple fails, or 0; and the path of a file: with such a path each of these calls fails instead, as long as that file is there. Of two rules
+   for one call the first decides. If a call fails, its number and its first descriptor (-1 if it has none) are added to the file FAILED_MARK. For each
+   call whose name is a word of NOTED_CALLS the name is added to the file NOTED_MARK, whether it fails or not. Programs that are started meet none of
+   this. */
 #define _GNU_SOURCE
 #include <dlfcn.h>
 #include <errno.h>
@@ -22,9 +24,17 @@
 #include <sys/wait.h>
 #include <unistd.h>
 
-static char call[64], mark[512], while_there[512];
-static unsigned long first, last, step, spared, calls;
-static int error, ready;
+enum { RULES = 8, NONE = -1 };
+
+struct rule {
+    char call[64], while_there[512];
+    unsigned long first, last, step, spared, calls;
+    int error;
+};
+
+static struct rule rules[RULES];
+static char mark[512], noted[256], noted_mark[512];
+static int count, ready;
 static __thread int inside;
 
 static void take(const char *name, char *text, size_t size)
@@ -35,54 +45,81 @@ static void take(const char *name, char *text, size_t size)
     unsetenv(name);
 }
 
-static unsigned long number_of(const char *name)
-{
-    char text[32] = "0";
-    take(name, text, sizeof text);
-    return strtoul(text, NULL, 10);
-}
-
 __attribute__((constructor)) static void begin(void)
 {
-    take("FAILED_CALL", call, sizeof call);
+    static char text[RULES * sizeof(struct rule)];
+    char *rest = text, *line;
+    take("FAILED_CALLS", text, sizeof text);
     take("FAILED_MARK", mark, sizeof mark);
-    take("FAILED_WHILE", while_there, sizeof while_there);
-    first = number_of("FAILED_FIRST");
-    last = number_of("FAILED_LAST");
-    step = number_of("FAILED_STEP");
-    spared = number_of("FAILED_SPARED");
-    error = (int)number_of("FAILED_ERROR");
+    take("NOTED_CALLS", noted, sizeof noted);
+    take("NOTED_MARK", noted_mark, sizeof noted_mark);
+    while (count < RULES && (line = strsep(&rest, "\n"))) {
+        struct rule *rule = &rules[count];
+        count += sscanf(line, "%63s %d %lu %lu %lu %lu %511[^\n]", rule->call, &rule->error, &rule->first, &rule->last, &rule->step, &rule->spared,
+            rule->while_there) >= 6;
+    }
     unsetenv("LD_PRELOAD");
     ready = 1;
 }
 
 /* by the system alone, so that nothing here is counted */
-static void note(unsigned long number, int descriptor)
+static void add_line(const char *path, const char *line)
 {
-    char line[64];
-    int length = snprintf(line, sizeof line, "%lu %d\n", number, descriptor);
-    int file = (int)syscall(SYS_openat, AT_FDCWD, mark, O_WRONLY | O_CREAT | O_APPEND | O_CLOEXEC, 0600);
+    int file = (int)syscall(SYS_openat, AT_FDCWD, path, O_WRONLY | O_CREAT | O_APPEND | O_CLOEXEC, 0600);
     if (file >= 0) {
-        syscall(SYS_write, file, line, length);
+        syscall(SYS_write, file, line, strlen(line));
         syscall(SYS_close, file);
     }
 }
 
+static int is_chosen(const struct rule *rule, unsigned long number)
+{
+    if (rule->while_there[0])
+        return syscall(SYS_faccessat, AT_FDCWD, rule->while_there, F_OK) == 0;
+    return number >= rule->first && number <= rule->last && (rule->step < 2 || (number - rule->first) % rule->step == 0) &&
+        (rule->spared == 0 || number % rule->spared != 0);
+}
+
+static void note(const char *name)
+{
+    char line[128], words[sizeof noted + 2];
+    snprintf(words, sizeof words, " %s ", noted);
+    snprintf(line, sizeof line, " %s ", name);
+    if (!strstr(words, line))
+        return;
+    snprintf(line, sizeof line, "%s\n", name);
+    add_line(noted_mark, line);
+}
+
+/* the error of a call that fails, 0 for one byte, and otherwise NONE */
+static int failure(const char *name, int descriptor)
+{
+    int found = NONE;
+    if (!ready || inside)
+        return NONE;
+    inside = 1;
+    if (noted[0])
+        note(name);
+    for (struct rule *rule = rules; rule < rules + count; rule++) {
+        if (strcmp(name, rule->call) != 0)
+            continue;
+        unsigned long number = __sync_add_and_fetch(&rule->calls, 1);
+        if (found != NONE || !is_chosen(rule, number))
+            continue;
+        char line[64];
+        snprintf(line, sizeof line, "%lu %d\n", number, descriptor);
+        add_line(mark, line);
+        found = rule->error;
+    }
+    inside = 0;
+    if (found > 0)
+        errno = found;
+    return found;
+}
+
 static int fails(const char *name, int descriptor)
 {
-    if (!ready || inside || strcmp(name, call) != 0)
-        return 0;
-    unsigned long number = __sync_add_and_fetch(&calls, 1);
-    int chosen = number >= first && number <= last && (step < 2 || (number - first) % step == 0) && (spared == 0 || number % spared != 0);
-    inside = 1;
-    if (while_there[0])
-        chosen = syscall(SYS_faccessat, AT_FDCWD, while_there, F_OK) == 0;
-    if (chosen)
-        note(number, descriptor);
-    inside = 0;
-    if (chosen && error)
-        errno = error;
-    return chosen;
+    return failure(name, descriptor) != NONE;
 }
 
 #define NEXT(name) \
@@ -104,11 +141,11 @@ static int fails(const char *name, int descriptor)
     ssize_t name words \
     { \
         NEXT(name); \
-        if (fails(#name, descriptor)) { \
-            if (error) \
-                return -1; \
+        int found = failure(#name, descriptor); \
+        if (found > 0) \
+            return -1; \
+        if (found == 0) \
             size = size < 1 ? size : 1; \
-        } \
         return next given; \
     }
 
@@ -148,11 +185,11 @@ PART(pwrite, (int a, const void *b, size_t c, off_t d), (a, b, c, d), a, c)
 int close(int a)
 {
     NEXT(close);
-    int is_failed = fails("close", a);
+    int found = failure("close", a);
     int ended = next(a);
-    if (!is_failed)
+    if (found == NONE)
         return ended;
-    errno = error;
+    errno = found;
     return -1;
 }
 
@@ -186,13 +223,15 @@ int fcntl(int a, int b, ...)
 int posix_spawn(pid_t *a, const char *b, const posix_spawn_file_actions_t *c, const posix_spawnattr_t *d, char *const e[], char *const f[])
 {
     NEXT(posix_spawn);
-    return fails("posix_spawn", -1) ? error : next(a, b, c, d, e, f);
+    int found = failure("posix_spawn", -1);
+    return found == NONE ? next(a, b, c, d, e, f) : found;
 }
 
 int pthread_create(pthread_t *a, const pthread_attr_t *b, void *(*c)(void *), void *d)
 {
     NEXT(pthread_create);
-    return fails("pthread_create", -1) ? error : next(a, b, c, d);
+    int found = failure("pthread_create", -1);
+    return found == NONE ? next(a, b, c, d) : found;
 }
 
 static void *refused(void)

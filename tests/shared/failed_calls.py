@@ -25,17 +25,17 @@ class Library:
     def run(self, call, error, first, last=None, step=1):
         """A run in which the calls of this name from one number to another fail, or every second one and so on; by itself the first alone.
         Without an error a read or a write takes one byte."""
-        return Run(self, call, error, {"FAILED_FIRST": str(first), "FAILED_LAST": str(first if last is None else last), "FAILED_STEP": str(step)})
+        return Run(self, call).also(call, error, first, first if last is None else last, step)
 
     def run_sparing(self, call, error, last, spared):
         """A run in which the calls of this name up to a number fail, but for each of the number `spared`."""
-        return Run(self, call, error, {"FAILED_FIRST": "1", "FAILED_LAST": str(last), "FAILED_SPARED": str(spared)})
+        return Run(self, call).also(call, error, 1, last, spared=spared)
 
     def run_while(self, call, error):
         """A run in which all calls of this name fail while its switch is on."""
-        run = Run(self, call, error, {})
-        run.environment["FAILED_WHILE"] = run.switch = run.mark + ".on"
-        return run
+        run = Run(self, call)
+        run.switch = run.mark + ".on"
+        return run.also(call, error, switch=run.switch)
 
 
 def in_fast_time(folder, times, environment=os.environ):
@@ -48,11 +48,29 @@ def in_fast_time(folder, times, environment=os.environ):
 class Run:
     """One run: the environment that it needs, and what failed in it."""
 
-    def __init__(self, library, call, error, words):
+    def __init__(self, library, call=None):
+        self.call, self.switch = call, None
         self.mark = tempfile.mktemp(prefix="mark-", dir=library.folder)
-        self.environment = {"LD_PRELOAD": library.path, "FAILED_CALL": call, "FAILED_MARK": self.mark}
-        self.environment.update(words, FAILED_ERROR=str(getattr(errno, error) if error else 0))
-        self.switch = None
+        self.environment = {"LD_PRELOAD": library.path, "FAILED_CALLS": "", "FAILED_MARK": self.mark}
+
+    def also(self, call, error, first=1, last=ALL, step=1, spared=0, switch=""):
+        """The same, in which these calls fail too, by themselves all of this name."""
+        rule = (call, getattr(errno, error) if error else 0, first, last, step, spared, switch)
+        self.environment["FAILED_CALLS"] += "%s %d %d %d %d %d %s\n" % rule
+        return self
+
+    def noting(self, *calls):
+        """The same, in which each call of these names is noted, whether it fails or not."""
+        self.environment.update(NOTED_CALLS=" ".join(calls), NOTED_MARK=self.mark + ".noted")
+        return self
+
+    def noted(self):
+        """The names of the calls that were noted, in their order."""
+        try:
+            with open(self.mark + ".noted") as file:
+                return file.read().split()
+        except FileNotFoundError:
+            return []
 
     def turn(self, on):
         """Turns failures on, or off."""
@@ -71,10 +89,11 @@ class Run:
             return []
 
     def end(self):
-        """Whether any call failed; the mark is taken away."""
+        """Whether any call failed; what was noted of this run is taken away."""
         failed = self.failed()
-        if failed:
-            os.unlink(self.mark)
+        for path in (self.mark, self.mark + ".noted"):
+            if os.path.exists(path):
+                os.unlink(path)
         return bool(failed)
 
 

@@ -307,6 +307,17 @@ class Suite(Checks):
         """The path of a small program of the tests, which is compiled where it is not yet."""
         return small_programs.program(source, self.folder)
 
+    def linked(self, name="tcpserver"):
+        """The path of a link to the program."""
+        path = self.path(name)
+        if not os.path.lexists(path):
+            os.symlink(self.program, path)
+        return path
+
+    def by_name(self):
+        """The command of a server that is called as `tcpserver`, and has its connections as the others."""
+        return [self.linked(), "-s" if self.handed else "-S"]
+
     def path(self, name, text=None):
         """The path of a file in the folder of this group; with a text the file is made."""
         path = os.path.join(self.folder, name)

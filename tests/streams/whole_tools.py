@@ -1,5 +1,5 @@
-"""Parts of whole tools that no clause reaches: a system without locks, hundreds of arguments, variables and settings,
-tens of thousands of small reads, and a script of 200 MiB.
+"""Parts of whole tools that no clause reaches: a system without locks, calls for a program that fail, hundreds of
+arguments, variables and settings, tens of thousands of small reads, and a script of 200 MiB.
 """
 import concurrent.futures
 import os
@@ -56,6 +56,49 @@ def check_locks(checks, program, folder):
     checks.expect("with locks", install(NEW), (0, b"", ""))
     checks.expect("with locks: what stands there", os.listdir(place), ["rules"])
     checks.holds("the new rules stand", compiled_files.content(place, "rules") not in (None, old))
+
+
+# calls for a program
+
+# calls that fail, and what comes of it: the fault, whether all bytes passed before, and the calls that were made, which are one wait and one kill at most
+START, WAITED, KILLED = ["posix_spawn"], ["posix_spawn", "waitpid"], ["posix_spawn", "kill", "waitpid"]
+FAILING = [
+    ({}, None, True, WAITED),
+    ({"posix_spawn": "ENOENT"}, "cannot start", False, START),
+    ({"posix_spawn": "EACCES"}, "cannot start", False, START),
+    ({"posix_spawn": "ENOEXEC"}, "cannot start", False, START),
+    ({"posix_spawn": "ENOMEM"}, "out of memory", False, START),
+    ({"waitpid": "EIO"}, "device fault", True, WAITED),
+    ({"waitpid": "ECHILD"}, "device fault", True, WAITED),
+    ({"waitpid": "ENOMEM"}, "out of memory", True, WAITED),
+    # (without a thread for its input the program is given up)
+    ({"pthread_create": "EAGAIN"}, "cannot start", False, KILLED),
+    ({"pthread_create": "EAGAIN", "kill": "EPERM"}, "cannot start", False, KILLED),
+    ({"pthread_create": "EAGAIN", "kill": "EPERM", "waitpid": "EIO"}, "cannot start", False, KILLED),
+]
+SENT, SAYS = b"down\n.\n", "cat >given; printf 'up\\nend'; exit 3"
+# what comes through each tool, both ways
+PASSED = {"fixcrio": (b"down\r\n.\r\n", b"up\r\nend"), "recordio": (SENT, b"up\nend")}
+
+
+def check_calls(checks, program, folder):
+    """How `fixcrio` and `recordio` end if calls for their program fail, what came through, and how often they waited for the program and killed it."""
+    library = failed_calls.Library(folder)
+    for tool in ("fixcrio", "recordio"):
+        for failing, fault, has_passed, calls in FAILING:
+            run = failed_calls.Run(library).noting("posix_spawn", "kill", "waitpid")
+            for call, error in failing.items():
+                run.also(call, error)
+            place, variables = tempfile.mkdtemp(dir=folder), dict(os.environ, **run.environment)
+            words = [program, tool, shutil.which("sh"), "-c", SAYS]
+            ended = subprocess.run(words, cwd=place, input=SENT, env=variables, stdout=subprocess.PIPE, stderr=subprocess.PIPE, timeout=LIMIT)
+            name, mark = "%s under %r: " % (tool, failing), tool.encode() + b": "
+            given, written = PASSED[tool] if has_passed else (b"", b"")
+            told = [line for line in ended.stderr.split(b"\n") if line.startswith(mark)]
+            wanted = (3, written, []) if fault is None else (111, written, [mark + fault.encode()])
+            checks.expect(name + "how it ends", (ended.returncode, ended.stdout, told), wanted)
+            checks.expect(name + "what its program was given", compiled_files.content(place, "given") or b"", given)
+            checks.expect(name + "its calls for the program", run.noted(), calls)
 
 
 # arguments and variables
@@ -210,8 +253,9 @@ def check(program, failures):
     with tempfile.TemporaryDirectory() as folder:
         if shutil.which("gcc"):
             check_locks(checks, program, folder)
+            check_calls(checks, program, folder)
         else:
-            print("whole_tools: there is no gcc: locks that fail are skipped")
+            print("whole_tools: there is no gcc: locks and calls for a program that fail are skipped")
         check_words_of_streams(checks, program)
         check_words_of_the_server(checks, program, folder)
         check_reads(checks, program, folder)
