@@ -309,7 +309,7 @@ def waited_for(suite, name, run, program, wanted, calls):
         with suite.start(["-v", "-c", "1"] + options, program, env=dict(os.environ, **run.environment)) as server:
             server.ask(b"a line\n")
             suite.expect("%s under %r" % (name, options), (server.end(), server.lines()[4:]), (code, wanted + last + end))
-            suite.expect("its waits and kills", run.noted(), calls)
+            suite.expect("%s under %r: its waits and kills" % (name, options), run.noted(), calls)
             suite.audit(name, server)
         run.end()
 
@@ -324,7 +324,7 @@ def one_of_two(suite, run):
         wanted = ["status: 0/2", "status: 1/2", "retired 1", "status: 1/2"]
         wanted += [line for serial in (2, 3, 4) for line in ("status: 2/2", "end %d status 7" % serial, "status: 1/2")]
         suite.expect("one of two places given up", (server.end(), told), (0, wanted))
-        suite.expect("its waits and kills", run.noted(), THREE_WAITS + 3 * ONE_WAIT)
+        suite.expect("one of two places given up: its waits and kills", run.noted(), THREE_WAITS + 3 * ONE_WAIT)
         suite.audit("one of two places given up", server)
 
 

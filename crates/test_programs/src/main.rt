@@ -2,10 +2,10 @@
 //! name it does nothing.
 //!
 //! - `test_folders` takes the path of a folder, and makes the calls of it that the standard input asks for
-//! - `test_server` serves connections of its own, or tells a log, as its words say
 //! - `test_sites` runs eight callers of one site, and says what their receipts come to
 #![tactic(auto)]
 
+mod answer;
 mod calls;
 mod children;
 mod eight_threads;
@@ -13,6 +13,7 @@ mod folder;
 mod mem_disk;
 mod sites;
 
+use answer::Answer;
 use eight_threads::eight_callers_in_threads;
 use folder::run_folder;
 use std::fs::{File, Files};
@@ -22,7 +23,6 @@ use std::sync::Wait;
 use std::thread::Threads;
 use std::time::Clock;
 use std::{env, io};
-use test_server::Answer;
 
 /// What stands behind the last slash of a path, or all of a path without one.
 fn last_part(path: &str) -> &str {
@@ -59,7 +59,6 @@ fn call<R: AllocGlobal + Files<File = File> + Threads + Wait + Clock + Sync>(
     };
     match name {
         "test_folders" => run_folder(rt, rt.alloc(), word, given, out),
-        "test_server" => test_server::run(rt, rt.alloc(), words, out),
         "test_sites" => run_sites(rt, out),
         _ => {}
     }
