@@ -147,17 +147,14 @@ impl<Q: Admission> Door<Q> {
         self.end.is_some() || self.left == Some(0)
     }
 
-    /// Lets a connection in. `None` if it is refused, or nobody is let in any more. If somebody is, it ends the succession
-    /// of errors.
+    /// Lets a connection in, if it is not refused. It ends the succession of errors.
     pub fn admit(&mut self, came: Q::Came) -> Option<Q::Work>
+        requires open { self.old.end ≡ None }
+        requires more { self.old.left ≢ Some 0 }
         ensures its { IfSome result (Q.is_its came) }
-        ensures anew { self.old.end ≡ None → self.old.left ≢ Some 0 → self.new.errors.count ≡ 0 }
+        ensures anew { self.new.errors.count ≡ 0 }
         ensures last { self.new.errors.last ≡ self.old.errors.last }
     {
-        if self.is_over() {
-            drop(came);
-            return None;
-        }
         self.errors.end();
         match self.admission.admit(came) {
             AdmitOutcome::In(work) => {

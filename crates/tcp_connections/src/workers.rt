@@ -290,7 +290,14 @@ where
     ) -> Option<<V::Entrance as Admission>::Work>
         ensures its { IfSome result (V.Entrance.is_its came) }
     {
-        let work = self.door.lock(self.rt).admit(came);
+        let mut door = self.door.lock(self.rt);
+        if door.is_over() {
+            drop(door);
+            drop(came);
+            return None;
+        }
+        let work = door.admit(came);
+        drop(door);
         if work.is_some() {
             self.means.came(self.rt);
         }
