@@ -301,15 +301,15 @@ def rounds_of_waits(suite):
 
 
 def waited_for(suite, name, run, program, wanted, calls):
-    """A server of one client with one place, and without an end after that: its lines behind the verdict, its exit code and its calls."""
-    last = ["status: 1/1" if wanted == ["retired 1"] else "status: 0/1"]
-    for options, code, end in ((["-k", "1"], 0, []), ([], 111, ["no places left"])):
-        if code and last != ["status: 1/1"]:
-            continue
+    """A server of one place and one client, and one that is to serve more if the place is given up: its lines behind the verdict, its exit code and calls."""
+    ways = [(["-k", "1"], 0, ["status: 0/1"])]
+    if wanted == ["retired 1"]:
+        ways = [(["-k", "1"], 0, ["status: 1/1"]), ([], 111, ["status: 1/1", "no places left"])]
+    for options, code, last in ways:
         with suite.start(["-v", "-c", "1"] + options, program, env=dict(os.environ, **run.environment)) as server:
             server.ask(b"a line\n")
-            suite.expect("%s under %r" % (name, options), (server.end(), server.lines()[4:]), (code, wanted + last + end))
-            suite.expect("its waits and kills", run.noted(), calls)
+            suite.expect("%s under %r" % (name, options), (server.end(), server.lines()[4:]), (code, wanted + last))
+            suite.expect("%s under %r: its waits and kills" % (name, options), run.noted(), calls)
             suite.audit(name, server)
         run.end()
 
@@ -324,7 +324,7 @@ def one_of_two(suite, run):
         wanted = ["status: 0/2", "status: 1/2", "retired 1", "status: 1/2"]
         wanted += [line for serial in (2, 3, 4) for line in ("status: 2/2", "end %d status 7" % serial, "status: 1/2")]
         suite.expect("one of two places given up", (server.end(), told), (0, wanted))
-        suite.expect("its waits and kills", run.noted(), THREE_WAITS + 3 * ONE_WAIT)
+        suite.expect("one of two places given up: its waits and kills", run.noted(), THREE_WAITS + 3 * ONE_WAIT)
         suite.audit("one of two places given up", server)
 
 
