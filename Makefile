@@ -23,7 +23,7 @@ MANDIR ?= $(mandir)
 PROGRAM := crates/ucspi/out/ucspi
 TOOLS := addcr delcr fixcrio recordio rulesim tcprules tcprulescheck tcpserver
 # the small programs of the tests: one program, which looks at the name by which it is called
-SMALL := test_folders test_installs test_pairs test_server test_sites
+SMALL := test_folders test_installs test_pairs test_sites
 PROBE := crates/test_programs/out/test_programs
 PROBES := $(addprefix crates/test_programs/out/,$(SMALL))
 # both, built without proofs

@@ -1,8 +1,7 @@
 """The forms of the lines of a server's log, without their name in front: each line as a text, of which any part may be a pattern. They are written from
 docs/LOG_LINES.md, with nothing of the program or of the log reader in them.
 
-A new field of a line is added here. Its bytes are spelled once more, independently of this, in the group `server_log` and in the stored logs of the
-group `service_calls`.
+A new field of a line is added here. Its bytes are spelled once more, independently of this, in the group `server_log`.
 """
 import re
 

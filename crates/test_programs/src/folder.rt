@@ -5,11 +5,11 @@
 //! - `zeros COUNT` appends this many zero bytes, in pieces
 ghost use Rattle.std.specs.Prelude.{◌≡◌, false};
 
+use crate::answer::Answer;
 use dir_calls::{Dir, DirFault, Name, RulesFile};
 use dir_disk::{FolderFault, NoWait, OsDir, find_folder};
 use std::alloc::Global;
 use std::fs::{File, Files};
-use test_server::Answer;
 
 /// How many of the zeros are given to a call of `append`.
 const PIECE: usize = 4_096;

@@ -1,4 +1,5 @@
 //! An installation in a directory in memory, one of whose calls fails.
+use crate::answer::Answer;
 use crate::fuse_dir::FuseDir;
 use cdb_files::CdbFile;
 use dir_calls::{Choice, Dir, Name};
@@ -8,7 +9,6 @@ use rule_lookup::{Peer, RuleSource, Verdict, WhenMissing, decide};
 use rules_install::whole::install;
 use rules_install::{FileNames, InstallFault};
 use std::alloc::Global;
-use test_server::Answer;
 
 /// Installs `:allow`, and then `:deny` while the call with this number, from 1, fails.
 ///

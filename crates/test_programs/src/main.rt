@@ -4,10 +4,10 @@
 //! - `test_folders` takes the path of a folder, and makes the calls of it that the standard input asks for
 //! - `test_installs` takes the number of a call, and installs rules in a directory in memory where that call fails
 //! - `test_pairs` takes a limit, and makes a compiled file of the pairs on the standard input
-//! - `test_server` serves connections of its own, or tells a log, as its words say
 //! - `test_sites` runs eight callers of one site, and says what their receipts come to
 #![tactic(auto)]
 
+mod answer;
 mod calls;
 mod children;
 mod eight_threads;
@@ -18,6 +18,7 @@ mod mem_disk;
 mod pairs;
 mod sites;
 
+use answer::Answer;
 use eight_threads::eight_callers_in_threads;
 use folder::run_folder;
 use installs::run_installs;
@@ -29,7 +30,6 @@ use std::sync::Wait;
 use std::thread::Threads;
 use std::time::Clock;
 use std::{env, io};
-use test_server::Answer;
 
 /// What stands behind the last slash of a path, or all of a path without one.
 fn last_part(path: &str) -> &str {
@@ -68,7 +68,6 @@ fn call<R: AllocGlobal + Files<File = File> + Threads + Wait + Clock + Sync>(
         "test_folders" => run_folder(rt, rt.alloc(), word, given, out),
         "test_installs" => run_installs(rt.alloc(), word, out),
         "test_pairs" => run_pairs(rt.alloc(), word, given, out),
-        "test_server" => test_server::run(rt, rt.alloc(), words, out),
         "test_sites" => run_sites(rt, out),
         _ => {}
     }

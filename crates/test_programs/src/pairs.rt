@@ -1,7 +1,7 @@
 //! Pairs as a compiled file. Each line of the standard input has a key, a tab and a value.
+use crate::answer::Answer;
 use cdb_files::{AddFault, Maker};
 use std::alloc::Global;
-use test_server::Answer;
 
 /// Adds the file of some pairs, behind a line for each pair that is refused. The file has at most this many bytes.
 pub fn run_pairs(alloc: Global, limit: &str, given: &[u8], out: &mut Answer) {

@@ -63,17 +63,6 @@ impl Answer {
         self.end_line();
     }
 
-    /// Adds a number.
-    pub fn number(&mut self, number: u64) {
-        self.has_failed |= write!(self.bytes, "{number}").is_err();
-    }
-
-    /// Adds a text and a number.
-    pub fn count(&mut self, text: &str, number: u64) {
-        self.text(text);
-        self.number(number);
-    }
-
     /// Adds a value as `{}` shows it.
     pub fn show<T: Display>(&mut self, value: &T) {
         self.has_failed |= write!(self.bytes, "{value}").is_err();
