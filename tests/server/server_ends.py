@@ -301,14 +301,14 @@ def rounds_of_waits(suite):
 
 
 def waited_for(suite, name, run, program, wanted, calls):
-    """A server of one client with one place, and without an end after that: its lines behind the verdict, its exit code and its calls."""
-    last = ["status: 1/1" if wanted == ["retired 1"] else "status: 0/1"]
-    for options, code, end in ((["-k", "1"], 0, []), ([], 111, ["no places left"])):
-        if code and last != ["status: 1/1"]:
-            continue
+    """A server of one place and one client, and one that is to serve more if the place is given up: its lines behind the verdict, its exit code and calls."""
+    ways = [(["-k", "1"], 0, ["status: 0/1"])]
+    if wanted == ["retired 1"]:
+        ways = [(["-k", "1"], 0, ["status: 1/1"]), ([], 111, ["status: 1/1", "no places left"])]
+    for options, code, last in ways:
         with suite.start(["-v", "-c", "1"] + options, program, env=dict(os.environ, **run.environment)) as server:
             server.ask(b"a line\n")
-            suite.expect("%s under %r" % (name, options), (server.end(), server.lines()[4:]), (code, wanted + last + end))
+            suite.expect("%s under %r" % (name, options), (server.end(), server.lines()[4:]), (code, wanted + last))
             suite.expect("%s under %r: its waits and kills" % (name, options), run.noted(), calls)
             suite.audit(name, server)
         run.end()
