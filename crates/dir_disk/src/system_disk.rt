@@ -30,9 +30,9 @@ const STALE: i32 = 116;
 
 const NO_FOLDER: i32 = 20;
 
-/// A folder of the system. Each call is one of std's, which makes one of the system's and passes on its answer. If a
-/// signal interrupts it, it is made again, with the looks before it. Nothing is known of the system: that it does what
-/// `Disk` says is the premise of all that stands on it.
+/// A folder of the system. Each call is one of std's, with looks before it. Std writes all bytes of a call, and makes an
+/// interrupted `open`, `write` or `fsync` again. Looks, reads, `unlink` and `rename` are made again here. Nothing is known
+/// of the system: that it does what `Disk` says is the premise of all that stands on it.
 ///
 /// Std has no calls by a folder's descriptor, so each call is by the path. The folder is opened once, before the first
 /// change of a name; if it can't be opened for reading, nothing has changed. Before each change of a name, and before

@@ -25,7 +25,7 @@ use Rattle.rules_install.specs.NamePair.{NamePair}
 use Rattle.rules_install.specs.Filled.{IsWritten, whole_file, fillings_left}
 use Rattle.rules_install.specs.Installing.{Installing, FitsPhase, IsConsistent, IsUnfilled, next_of, next_phase, synced_file}
 use Rattle.rules_install.specs.Steps.{BlamesFault, Changes, Goes, HasFilled, IsOfDevice, IsSame, StepKeeps, answer_of, may_stand}
-use Rattle.rules_install.specs.Whole.{Ends, EndsRun, FailsAt, IsRefused, MayBeInstalled, RefusesText, StandsAtDone, TellsWhere, may_have}
+use Rattle.rules_install.specs.Whole.{EndsRun, FailsAt, StandsAtDone, TellsWhere, may_have}
 use Rattle.dir_calls.specs.declared.phase.Phase.{Phase}
 use Rattle.dir_calls.specs.declared.phase.Phase.TheVariants.{Fresh, Filling, Synced, Named, Done}
 use Rattle.rules_install.specs.declared.fault.InstallFault.{InstallFault}
@@ -301,15 +301,6 @@ stands_at_done start old new (Line fault) at = tt
 stands_at_done start old new TooLarge at = tt
 stands_at_done start old new Over at = tt
 
--- a text that is refused comes to no call of the directory
-pub refusal_tells : (limits : Limits) (text : List ℕ) (start : Installing) (old new : Directory) (fault : InstallFault)
-    → RefusesText limits text fault → TellsWhere start old new fault
-refusal_tells limits text start old new (Disk fault phase) refuses = absurd refuses
-refusal_tells limits text start old new OutOfMemory refuses = tt
-refusal_tells limits text start old new (Line fault) refuses = tt
-refusal_tells limits text start old new TooLarge refuses = tt
-refusal_tells limits text start old new Over refuses = tt
-
 -- what stands for good stands there now
 pub stands_now : (d : Directory) (name bytes : List ℕ) → LastsAmong d name (Some bytes ∷ []) → content d name ≡ Some bytes
 stands_now d name bytes lasts = by (number_of d name) (lasts.each (current d.names) (left_current d.names))
@@ -344,39 +335,3 @@ pub done_lasts : (start s : Installing) (d : Directory) → IsSame start s → L
 done_lasts start s d same lasts =
     subst (λ rules. LastsAmong d start.names.cdb (Some (whole_file rules) ∷ [])) same.rules
     (subst (λ (n : NamePair). LastsAmong d n.cdb (Some (whole_file s.rules) ∷ [])) same.names lasts)
-
--- a settling, which fails only where the device does, never answers want of memory
-pub settles_whole : {T : Type 0} (outcome : Result T DirFault) → IfErr outcome (λ fault. fault ≡ Device)
-    → IsAnswer (answer_of Done outcome) (Err OutOfMemory) → ⊥
-settles_whole (Ok done) faults is = absurd (cc)
-settles_whole (Err fault) faults is = absurd (by fault faults is)
-  where
-    by : (other : DirFault) → other ≡ Device → IsAnswer (answer_of {T = Unit {0}} Done (Err other)) (Err OutOfMemory) → ⊥
-    by Device same is = absurd (cc)
-    by NoScratch same is = absurd (cc)
-    by NoName same is = absurd (cc)
-    by NoMemory same is = absurd (cc)
-
--- ---- the answer of an installation
-
-pub ends_install : (limits : Limits) (text : List ℕ) (s : Installing) (result : Result (Unit {0}) InstallFault) → EndsRun s result
-    → MayBeInstalled limits text → Ends limits text result
-ends_install limits text s (Ok done) ends may = may
-ends_install limits text s (Err (Disk fault phase)) ends may = may
-ends_install limits text s (Err OutOfMemory) ends may = tt
-ends_install limits text s (Err (Line fault)) ends may = absurd ends
-ends_install limits text s (Err TooLarge) ends may = absurd ends
-ends_install limits text s (Err Over) ends may = absurd ends
-
-pub not_refused : (s : Installing) (result : Result (Unit {0}) InstallFault) → EndsRun s result → IsRefused result → ⊥
-not_refused s (Ok done) ends refused = refused
-not_refused s (Err (Disk fault phase)) ends refused = refused
-not_refused s (Err OutOfMemory) ends refused = refused
-not_refused s (Err (Line fault)) ends refused = ends
-not_refused s (Err TooLarge) ends refused = ends
-not_refused s (Err Over) ends refused = ends
-
--- two facts of an answer that is no fault
-pub on_both : {A E P Q R : Type 0} (result : Result A E) → OnOk result P → OnOk result Q → (P → Q → R) → OnOk result R
-on_both (Ok x) p q r = r p q
-on_both (Err e) p q r = tt

@@ -1,4 +1,4 @@
--- What a whole installation answers.
+-- Which text is installed, and what all steps of its installation answer.
 use Rattle.std.specs.Prelude.{◌≡◌, ◌≢◌, ◌<◌, ◌≤◌, ⊤, ℕ, true, false, List, ◌∷◌, Option, None, Some, Result, Ok, Err}
 use Rattle.dir_calls.specs.Directory.{Directory, file_at}
 use Rattle.dir_calls.specs.Lasting.{HasAmong, LastsAmong}
@@ -39,12 +39,6 @@ RefusesText limits text Over = ⊥
 abbrev pub Begins : {T : Type 0} → Limits → List ℕ → Result T InstallFault → Type 0
 Begins limits text (Ok install) = MayBeInstalled limits text
 Begins limits text (Err fault) = RefusesText limits text fault
-
--- the same for a whole installation: only an installable text comes as far as a fault of the directory
-abbrev pub Ends : Limits → List ℕ → Result (Unit {0}) InstallFault → Type 0
-Ends limits text (Ok done) = MayBeInstalled limits text
-Ends limits text (Err (Disk fault phase)) = MayBeInstalled limits text
-Ends limits text (Err fault) = RefusesText limits text fault
 
 -- All steps end with `Done`; or with a fault of the directory, with the phase that was to be reached, after which the installation is
 -- over; or for want of memory, after which it is not.
@@ -88,12 +82,6 @@ IsDeviceFault fault = IsOfDevice (Err fault)
 abbrev pub DecidesAs : Option (List ℕ) → List ℕ → Type 0
 DecidesAs bytes text =
     (file : List ℕ) × (bytes ≡ Some file) × ((peer : Client) → decision_by (reading file) peer ≡ Ok (decision_of text peer))
-
--- the text was refused, or its file
-abbrev pub IsRefused : Result (Unit {0}) InstallFault → Type 0
-IsRefused (Err (Line fault)) = ⊤
-IsRefused (Err TooLarge) = ⊤
-IsRefused result = ⊥
 
 -- what may stand under the name of the rules file afterwards, if one of these stood there before: the new file too, but
 -- not after a fault on the way to a phase before `Named`

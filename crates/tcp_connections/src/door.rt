@@ -171,18 +171,12 @@ impl<Q: Admission> Door<Q> {
         }
     }
 
-    /// No connection came, by this error. `false` once the server has come to its end: then that is why, and the error is
-    /// not noted.
-    pub fn note(&mut self, error: AcceptError) -> bool
-        ensures one_more { result ≡ true → self.new.errors.count ≡ min 100 (self.old.errors.count + 1) }
-        ensures last { result ≡ true → self.new.errors.last ≡ error.number }
-        ensures not_noted { result ≡ false → self.new ≡ self.old }
+    /// No connection came, by this error.
+    pub fn note(&mut self, error: AcceptError)
+        ensures one_more { self.new.errors.count ≡ min 100 (self.old.errors.count + 1) }
+        ensures last { self.new.errors.last ≡ error.number }
     {
-        if self.is_over() {
-            return false;
-        }
         self.errors.add(error);
-        true
     }
 
     /// The pause after an error for want of room.
@@ -206,7 +200,8 @@ impl<Q: Admission> Door<Q> {
         }
     }
 
-    /// Ends the server, since all connections are retired, unless it has ended.
+    /// Ends the server, since all connections are retired, unless it has ended. If its entrance has not seen that of all
+    /// places, which would be amiss, it ends as without memory.
     pub fn end_without_places(&mut self)
         ensures same { self.new.errors ≡ self.old.errors }
     {

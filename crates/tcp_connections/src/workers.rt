@@ -146,7 +146,7 @@ where
                 Want::Worker => {}
                 Want::NoPlaces => {
                     self.door.lock(self.rt).end_without_places();
-                    return self.close_if_over();
+                    return self.close();
                 }
                 Want::End => return,
             }
@@ -158,7 +158,7 @@ where
             left = left.saturating_sub(1);
             if left == 0 && !is_made {
                 self.door.lock(self.rt).give_up();
-                return self.close_if_over();
+                return self.close();
             }
             self.means.pause(self.rt, pause.next());
         }
@@ -297,20 +297,27 @@ where
             return None;
         }
         let work = door.admit(came);
+        let is_over = door.is_over();
         drop(door);
         if work.is_some() {
             self.means.came(self.rt);
         }
-        self.close_if_over();
+        if is_over {
+            self.close();
+        }
         work
     }
 
-    // Once the server has come to its end, all workers end that wait for a connection, and the acceptor is dropped.
+    // Once the server has come to its end, nobody is let in any more.
     fn close_if_over(&self) {
         let is_over = self.door.lock(self.rt).is_over();
-        if !is_over {
-            return;
+        if is_over {
+            self.close();
         }
+    }
+
+    // All workers end that wait for a connection, and the acceptor is dropped.
+    fn close(&self) {
         self.means.end(self.rt);
         if let Some(acceptor) = &*self.acceptor.read(self.rt) {
             acceptor.wake();
@@ -322,8 +329,13 @@ where
     // Counts an error of accepting. After one for want of descriptors or memory it waits first. If a connection was
     // served then, the error is none of the hundred. Once the server has come to its end, the error is that of its end.
     fn pause(&self, error: AcceptError) {
-        let is_noted = self.door.lock(self.rt).note(error);
-        if !is_noted || error.lacks_room && self.wait_while_scarce() {
+        let mut door = self.door.lock(self.rt);
+        let was_over = door.is_over();
+        if !was_over {
+            door.note(error);
+        }
+        drop(door);
+        if was_over || error.lacks_room && self.wait_while_scarce() {
             return;
         }
         self.door.lock(self.rt).count_fault();

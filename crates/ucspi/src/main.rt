@@ -1,8 +1,9 @@
 //! The program `ucspi`: the name by which it was called, or its first word, names a tool. Where there is none it is
 //! `rulesim`, or at a terminal it lists the tools.
 //!
-//! `main` lends the system, and the tools that start threads, to `run_system`, and that all tools as calls to
-//! `ucspi_tools::run_program`. What they lend is a premise, which their lines state: `docs/internals/PROOFS.md` lists them.
+//! `main` lends the system, and the tools that start threads, to `run_system`. That lends all tools, as calls, to
+//! `ucspi_tools::run_program`. What they lend is a premise, which their lines state: `docs/internals/PROOFS.md` lists
+//! them.
 //!
 //! `tcpserver` stands here too, in `tool` and `serving`: the service of `tcp_service` over the system's sockets, files
 //! and programs, as its words ask for it. `System` has what it uses of the system, and `OnSystem` is the host of its
@@ -12,8 +13,8 @@
 //! ends well only by a `Finished`.
 //!
 //! At the end of a server both callers are back, and as many connections are alive as are retired: `serve` looks at the
-//! last, and says `has_lost` if it is not so. The events of its site are a run, which `whole_yard::laws::service_run` is
-//! about.
+//! last, and says `has_lost` if it is not so. The events of its site are a run, of which `whole_yard::laws::service_run`
+//! speaks.
 #![tactic(auto)]
 
 mod ends;
