@@ -55,3 +55,8 @@ idle f d same = at_same f d.scratch d same
 
 pub changed : (f : FileState → FileState) (d : Directory) → scratch_of (with_scratch f d.scratch d) ≡ option_map f (scratch_of d)
 changed f d = ap (λ s. option_and_then (λ n. slice_get (with_scratch f d.scratch d).files n) s) (scratch_kept f d.scratch d) ∙ at_file f d.scratch d
+
+-- a file of the changed ones
+pub changed_some : (f : FileState → FileState) (o : Option FileState) (now : FileState) → option_map f o ≡ Some now → (file : FileState) × (o ≡ Some file) × (now ≡ f file)
+changed_some f None now is = absurd (cc)
+changed_some f (Some file) now is = (file, refl, (cc))
