@@ -1,15 +1,34 @@
-//! All steps of an installation.
-ghost use Rattle.std.specs.Prelude.{◌≡◌, IsTrue, false, OnOk, IfErr};
+//! The begin and all steps of an installation.
+ghost use Rattle.std.specs.Prelude.{◌≡◌, IsTrue, false, OnOk, IfOk, IfErr};
+ghost use Rattle.rule_lookup.specs.Pairs.{pairs_of};
 ghost use Rattle.rules_install.specs.Filled.{IsWritten};
-ghost use Rattle.rules_install.specs.Installing.{Fits, HasForGood};
+ghost use Rattle.rules_install.specs.Installing.{begun, Fits, HasForGood};
 ghost use Rattle.rules_install.specs.Installs.{installing, IsUndone};
 ghost use Rattle.rules_install.specs.Series.{IsSeries};
 ghost use Rattle.rules_install.specs.Steps.{BlamesFault, IsSame};
-ghost use Rattle.rules_install.specs.Whole.{EndsRun, IsDeviceFault, RunKeeps, RunLasts, StandsAtDone, TellsWhere};
+ghost use Rattle.rules_install.specs.Whole.{Begins, EndsRun, IsDeviceFault, RunKeeps, RunLasts, StandsAtDone, TellsWhere};
 
-use crate::{Install, InstallFault};
+use crate::{FileNames, Install, InstallFault};
 use dir_calls::{Dir, Phase};
+use rule_lines::{Limits, parse};
 use std::alloc::Global;
+
+/// Prepares the installation of a rule text. It makes no call of a directory.
+///
+/// # Errors
+/// `Line` if the text is not accepted; `TooLarge` if its compiled file would be too large; `OutOfMemory`.
+pub fn prepare(
+    alloc: Global,
+    names: FileNames,
+    limits: &Limits,
+    text: &[u8],
+) -> Result<Install, InstallFault>
+    ensures begun { IfOk result (λ install. installing install ≡ begun (pairs_of text.now) names) }
+    // which text gets which answer
+    ensures ends { Begins limits.now text.now result }
+{
+    Install::begin(alloc, parse(alloc, text, limits)?, names, limits)
+}
 
 /// Makes all steps of an installation that are left.
 ///
