@@ -31,8 +31,8 @@ const STALE: i32 = 116;
 const NO_FOLDER: i32 = 20;
 
 /// A folder of the system. Each call is one of std's, with looks before it. Std writes all bytes of a call, and makes an
-/// interrupted `open`, `write` or `fsync` again. Looks, reads, `unlink` and `rename` are made again here. Nothing is known
-/// of the system: that it does what `Disk` says is the premise of all that stands on it.
+/// interrupted `open`, `write` or `fsync` again. Looks at the folder, reads, `unlink` and `rename` are made again here.
+/// Nothing is known of the system: that it does what `Disk` says is the premise of all that stands on it.
 ///
 /// Std has no calls by a folder's descriptor, so each call is by the path. The folder is opened once, before the first
 /// change of a name; if it can't be opened for reading, nothing has changed. Before each change of a name, and before
@@ -125,7 +125,7 @@ impl<R: Files<File = File> + Drop, W: Waits + Drop> SystemDisk<R, W> {
     // Opens the folder. A folder that can't be opened is an error of no other meaning.
     fn open_folder(&self) -> io::Result<File> {
         let path = self.folder.as_str();
-        let outcome = match check_folder(&self.files, path) {
+        let outcome = match patiently(|| check_folder(&self.files, path)) {
             Ok(()) => OpenOptions::new().read(true).open(&self.files, path),
             Err(error) => Err(error),
         };
@@ -183,7 +183,7 @@ impl<R: Files<File = File> + Drop, W: Waits + Drop> SystemDisk<R, W> {
     fn make(&mut self, name: &Name, mode: u32) -> io::Result<File> {
         put_path(&mut self.path, self.folder.as_str(), name)?;
         for _ in 0..NAME_TRIES {
-            self.see_folder()?;
+            patiently(|| self.see_folder())?;
             let outcome = self.make_hidden(mode);
             if let Some(outcome) = self.answer(outcome) {
                 return outcome;
