@@ -19,6 +19,8 @@ def file_of(content):
 # every call of a whole replacement, and then what stands there
 REPLACEMENT = "fresh tmp append abc append def patch 1 XY sync rename tmp rules settle open rules open tmp failures"
 ANSWERS = ["done", "3", "3", "done", "done", "done", "done", file_of(b"aXYdef"), "none", "0"]
+# how often a replacement of a file looks at the folder and at files
+LOOKS = 22
 DEVICE = "device fault"
 WHOLE = file_of(b"aXYdef")
 # how many words stand behind the name of a call, where it is not one
@@ -180,9 +182,15 @@ def injected(probe, folder, call, how, words, on=()):
 def injected_cases(probe, folder):
     """System calls that are interrupted once, or fail at call k, for each k."""
     yield "how a scratch file is made", opened_flags(probe, folder), [["O_RDWR|O_CREAT|O_EXCL", "0600"]]
-    for call in ("unlink", "rename", "pwrite64", "fsync", "statx"):
+    for call in ("unlink", "rename", "pwrite64", "fsync"):
         leave_file(folder)
         yield call + " interrupted", injected(probe, folder, call, "error=EINTR:when=1", REPLACEMENT), ANSWERS
+    looks = []
+    for k in range(1, LOOKS + 1):
+        leave_file(folder)
+        looks.append(injected(probe, folder, "statx", "error=EINTR:when=%d" % k, REPLACEMENT))
+    # three looks at a file that was just made, and one at a file that was opened, are not made again
+    yield "looks interrupted", [answers for answers in looks if DEVICE not in answers], [ANSWERS] * (LOOKS - 4)
     on = ["-P", os.path.join(folder, "rules")]
     yield "a read interrupted", injected(probe, folder, "pread64", "error=EINTR:when=1", "open rules failures", on), [WHOLE, "0"]
     for fault in ("EIO", "ENOSPC"):

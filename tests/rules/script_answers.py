@@ -197,14 +197,15 @@ def limited_to(room):
 
 def stops_in_turn():
     """A stop of each kind where an installation of `:deny` over `:allow` has begun, and at each phase: what decides before it, and what it leaves. From the
-    rename on that is the new text if the stop takes all changes of names, and once these are settled the new text alone."""
+    rename on that is the new text if the stop takes all changes of names, and once these are settled the new text alone. Then rules are installed again."""
     for phase in (None, *plain_words.PHASES):
         steps, reached = (["to " + phase], [phase]) if phase else ([], [])
         for stop in ("kept", "empty", "junk"):
             before = DENY if phase in ("named", "done") else ALLOW
             left = DENY if phase == "done" or (phase, stop) == ("named", "kept") else ALLOW
-            script = ["|:allow", "install", "|:deny", "begin", *steps, "ask 1.1.1.1", "stop " + stop, "ask 1.1.1.1"]
-            yield "stop %s at %s" % (stop, phase or "the beginning"), script, [INSTALLED, BEGUN, *reached, "rule :", before, STOPPED, "rule :", left]
+            script = ["|:allow", "install", "|:deny", "begin", *steps, "ask 1.1.1.1", "stop " + stop, "ask 1.1.1.1", "|1.:deny", "install", "ask 1.1.1.1"]
+            wanted = [INSTALLED, BEGUN, *reached, "rule :", before, STOPPED, "rule :", left, INSTALLED, "rule 1.:", DENY]
+            yield "stop %s at %s" % (stop, phase or "the beginning"), script, wanted
 
 
 def bad_command(number):

@@ -1,7 +1,6 @@
 """How `tcpserver` ends and goes on; which signals, descriptors and folders its programs get; what thousands of
 connections leave behind; and a system that refuses descriptors, threads, connections or waits.
 """
-import concurrent.futures
 import fcntl
 import os
 import resource
