@@ -20,10 +20,10 @@ const WAITING: &[u8] = b"tcprules: waiting for another installation\n";
 #[derive(Drop)]
 pub struct Waiting<'a, C, E> {
     clock: &'a C,
-    // what takes the line, until it is told
     errors: Option<E>,
     began: Option<Instant>,
     pauses: u64,
+    told: bool,
 }
 
 impl<'a, C: Clock, E> Waiting<'a, C, E> {
@@ -34,6 +34,7 @@ impl<'a, C: Clock, E> Waiting<'a, C, E> {
             errors,
             began: None,
             pauses: 0,
+            told: false,
         }
     }
 
@@ -51,16 +52,17 @@ impl<'a, C: Clock, E> Waiting<'a, C, E> {
     }
 }
 
-impl<'a, C: Clock, E: Write + Drop> Waits for Waiting<'a, C, E> {
+impl<'a, C: Clock, E: Write> Waits for Waiting<'a, C, E> {
     fn wait(&mut self) -> bool {
         let waited = self.seconds();
         if waited >= GIVEN_UP_AFTER {
             return false;
         }
-        if waited >= TOLD_AFTER
-            && let Some(mut errors) = self.errors.take()
-        {
-            let _ = errors.write_all(WAITING);
+        if waited >= TOLD_AFTER && !self.told {
+            if let Some(errors) = &mut self.errors {
+                let _ = errors.write_all(WAITING);
+            }
+            self.told = true;
         }
         self.pauses = self.pauses.saturating_add(1);
         thread::sleep(self.clock, Duration::from_millis(PAUSE));

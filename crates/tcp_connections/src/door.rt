@@ -200,19 +200,13 @@ impl<Q: Admission> Door<Q> {
         }
     }
 
-    /// Ends the server, since all connections are retired, unless it has ended. If its entrance has not seen that of all
-    /// places, which would be amiss, it ends as without memory.
-    pub fn end_without_places(&mut self)
+    /// Ends the server if all places are retired.
+    pub fn look_for_places(&mut self)
         ensures same { self.new.errors ≡ self.old.errors }
     {
-        if self.is_over() {
-            return;
+        if !self.is_over() && !self.admission.has_places() {
+            self.end = Some(ServeEnd::NoPlaces);
         }
-        self.end = if self.admission.has_places() {
-            Some(ServeEnd::OutOfMemory)
-        } else {
-            Some(ServeEnd::NoPlaces)
-        };
     }
 
     /// Ends the server, since there is no memory for it or no thread that serves anybody, unless it has ended.

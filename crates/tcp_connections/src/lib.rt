@@ -10,6 +10,7 @@
 
 pub mod accepting;
 pub mod admission;
+mod arrivals;
 pub mod door;
 mod handover;
 mod means;

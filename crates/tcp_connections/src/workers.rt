@@ -1,11 +1,12 @@
 //! Workers: each lets one connection after another in, and serves it up to the start of its program or to its end.
-ghost use Rattle.std.specs.Prelude.{◌≡◌, ◌⊎◌, IfSome, IsTrue, Some};
+ghost use Rattle.std.specs.Prelude.{◌≡◌, ◌⊎◌, IsTrue, Some};
 ghost use Rattle.std.specs.Thread.{IsSend, IsSync};
 ghost use Rattle.tcp_connections.specs.Admissions.{EndsAtCount, FailedToAccept, LetsInAtMost, suffices};
 ghost use Rattle.tcp_connections.specs.declared.admission.ServeEnd.TheVariants.{AcceptFaults, Count, NoPlaces, Spent};
 
-use crate::accepting::{AcceptError, Accepted, Acceptor};
+use crate::accepting::{Accepted, Acceptor};
 use crate::admission::{Admission, ServeEnd, Serving};
+use crate::arrivals::Arrivals;
 use crate::door::{Door, Errors, Pause};
 use crate::handover::Handover;
 use crate::means::{Means, Permit, Want};
@@ -15,7 +16,7 @@ use crate::threads::{
     start_waiting,
 };
 use std::alloc::Global;
-use std::sync::{Arc, Mutex, RwLock, Wait};
+use std::sync::{Arc, Wait};
 use std::thread;
 use std::thread::{Scope, Threads};
 use std::time::Clock;
@@ -33,17 +34,13 @@ pub struct Workers<'a, R, V: Serving, A> {
     rt: &'a R,
     alloc: Global,
     server: &'a V,
-    means: &'a Means,
-    door: Mutex<Door<V::Entrance>>,
-    // none once nobody is let in any more
-    acceptor: RwLock<Option<A>>,
-    // whoever has it waits until there may be descriptors or memory for a connection again
-    scarce: Mutex<()>,
+    arrivals: Arrivals<A, V::Entrance>,
     memory: MemoryLook,
     // whether there is memory for a process in reserve
     has_reserve: bool,
     // whether the worker that was made stays
     came_up: Handover<bool>,
+    means: &'a Means,
     reserve: &'a Reserve,
 }
 
@@ -102,19 +99,16 @@ where
             rt,
             alloc,
             server,
-            means: &means,
-            door: Mutex::new(Door::new(entrance, count)),
-            acceptor: RwLock::new(Some(acceptor)),
-            scarce: Mutex::new(()),
+            arrivals: Arrivals::new(acceptor, Door::new(entrance, count)),
             memory: MemoryLook::new(alloc, supply),
             has_reserve: supply.has_reserve(),
             came_up: Handover::new(),
+            means: &means,
             reserve,
         };
         workers.run();
-        let Workers { acceptor, door, .. } = workers;
-        drop(acceptor);
-        door.into_inner().into_end()
+        let Workers { arrivals, .. } = workers;
+        arrivals.into_end()
     }
 
     // Lets connections in until the server comes to an end, and waits until all that were let in are over.
@@ -130,7 +124,7 @@ where
                 if !workers.has_reserve || !start_waiting(scope, workers.rt, &workers.reserve.end) {
                     workers.reserve.give_back(workers.rt);
                 }
-                workers.close_if_over();
+                workers.arrivals.end_if_over(workers.rt, workers.means);
                 workers.make_workers(scope);
                 workers.reserve.give_back(workers.rt);
             },
@@ -145,8 +139,8 @@ where
             match self.means.wait_for_want(self.rt) {
                 Want::Worker => {}
                 Want::NoPlaces => {
-                    self.door.lock(self.rt).end_without_places();
-                    return self.close();
+                    self.arrivals.end_without_places(self.rt, self.means);
+                    return;
                 }
                 Want::End => return,
             }
@@ -157,8 +151,8 @@ where
             }
             left = left.saturating_sub(1);
             if left == 0 && !is_made {
-                self.door.lock(self.rt).give_up();
-                return self.close();
+                self.arrivals.give_up(self.rt, self.means);
+                return;
             }
             self.means.pause(self.rt, pause.next());
         }
@@ -264,95 +258,16 @@ where
                 continue;
             }
             pause = Pause::first();
-            match self.accept() {
+            match self.arrivals.accept(self.rt) {
                 Some(Ok(came)) => self.serve(scope, permit, came, second),
                 Some(Err(error)) => {
                     self.means.give_back(self.rt, permit);
-                    self.pause(error);
+                    self.arrivals.pause(self.rt, self.means, error);
                 }
                 None => self.means.give_back(self.rt, permit),
             }
         }
         self.means.wait_for_ends(self.rt);
-    }
-
-    // Waits for the next connection. `None` once no more come.
-    fn accept(&self) -> Option<Result<Option<Accepted<A::Holder>>, AcceptError>> {
-        Some(self.acceptor.read(self.rt).as_ref()?.accept())
-    }
-
-    // Lets a connection in that came, if its worker has what it takes. `None` if it was refused, or nobody is let in any
-    // more.
-    fn admit(
-        &self,
-        _permit: &Permit,
-        came: Option<Accepted<A::Holder>>,
-    ) -> Option<<V::Entrance as Admission>::Work>
-        ensures its { IfSome result (V.Entrance.is_its came) }
-    {
-        let mut door = self.door.lock(self.rt);
-        if door.is_over() {
-            drop(door);
-            drop(came);
-            return None;
-        }
-        let work = door.admit(came);
-        let is_over = door.is_over();
-        drop(door);
-        if work.is_some() {
-            self.means.came(self.rt);
-        }
-        if is_over {
-            self.close();
-        }
-        work
-    }
-
-    // Once the server has come to its end, nobody is let in any more.
-    fn close_if_over(&self) {
-        let is_over = self.door.lock(self.rt).is_over();
-        if is_over {
-            self.close();
-        }
-    }
-
-    // All workers end that wait for a connection, and the acceptor is dropped.
-    fn close(&self) {
-        self.means.end(self.rt);
-        if let Some(acceptor) = &*self.acceptor.read(self.rt) {
-            acceptor.wake();
-        }
-        let acceptor = self.acceptor.write(self.rt).take();
-        drop(acceptor);
-    }
-
-    // Counts an error of accepting. After one for want of descriptors or memory it waits first. If a connection was
-    // served then, the error is none of the hundred. Once the server has come to its end, the error is that of its end.
-    fn pause(&self, error: AcceptError) {
-        let mut door = self.door.lock(self.rt);
-        let was_over = door.is_over();
-        if !was_over {
-            door.note(error);
-        }
-        drop(door);
-        if was_over || error.lacks_room && self.wait_while_scarce() {
-            return;
-        }
-        self.door.lock(self.rt).count_fault();
-        self.close_if_over();
-    }
-
-    // Waits for a pause, or until there may be descriptors and memory again. Whether a connection was served. Workers
-    // wait one after another, so that all together try no more often than one would.
-    fn wait_while_scarce(&self) -> bool {
-        let turn = self.scarce.lock(self.rt);
-        let pause = self.door.lock(self.rt).next_pause();
-        let was_any_served = self.means.wait_for_change(self.rt, pause);
-        if !was_any_served {
-            thread::sleep(self.rt, pause);
-        }
-        drop(turn);
-        was_any_served
     }
 
     // Lets a connection in that came, serves it up to the start of its program, and sees that somebody goes on with it.
@@ -363,7 +278,7 @@ where
         came: Option<Accepted<A::Holder>>,
         second: &mut Option<Second<V::Upward>>,
     ) {
-        let Some(work) = self.admit(&permit, came) else {
+        let Some(work) = self.arrivals.admit(self.rt, self.means, &permit, came) else {
             self.means.give_back(self.rt, permit);
             return;
         };
