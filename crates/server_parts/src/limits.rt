@@ -98,9 +98,9 @@ pub fn supply_for(mode: Mode, connections: u64, variables: usize) -> Supply
 {
     let most = connections.saturating_mul(PUMPED).saturating_add(BESIDE);
     let descriptors = free_descriptors(most).saturating_sub(OWN);
-    let (to_begin, to_go_on, buffers) = match mode {
-        Mode::HandedOver => (HANDED, 0, 0),
-        Mode::Pumped => (PUMPED, PUMPED_ON, BUFFERS),
+    let (to_begin, to_go_on, threads, buffers) = match mode {
+        Mode::HandedOver => (HANDED, 0, 1, 0),
+        Mode::Pumped => (PUMPED, PUMPED_ON, 2, BUFFERS),
     };
     let texts = variables.saturating_mul(4).saturating_add(TEXTS);
     let start = texts.saturating_mul(PAGE).saturating_add(START);
@@ -116,6 +116,7 @@ pub fn supply_for(mode: Mode, connections: u64, variables: usize) -> Supply
         descriptors,
         to_begin,
         to_go_on,
+        threads,
         memory: is_limited.then_some(memory),
     }
 }

@@ -148,7 +148,8 @@ where
     R: Wait + Clock + Sync,
     T: OpenListener<Stream = TcpStream> + AsRawFd + Drop,
 {
-    type Holder = Holder<'a, R>;
+    /// None if there was no memory for the connection, which was closed then.
+    type Came = Option<Accepted<Holder<'a, R>>>;
 
     fn accept(&self) -> Result<Option<Accepted<Holder<'a, R>>>, AcceptError> {
         let (local, stream, peer) = match self.next() {

@@ -56,7 +56,6 @@ enum Installation {
 ///
 /// A place, a running child or a pass that a call takes has the yard's ledger, by its type. `serial_of`, `stage` and
 /// `is_peer` tell whether its event may happen.
-#[derive(Drop)]
 pub struct Yard<L: Assumptions, D: Dir + Drop> {
     register: Register<L>,
     dir: D,
@@ -74,6 +73,24 @@ pub struct Yard<L: Assumptions, D: Dir + Drop> {
     // directory
     pub ghost installed: { IsTrue L.met
         → ∥ KeepsHistory (books_of register) (state_of register (D.state dir) rules installation) ∥₁ },
+}
+
+// Written out, a drop of all that a yard has is proved here alone. A derived one is proved in each crate above that lets a
+// yard go, with those of all its parts.
+impl<L: Assumptions, D: Dir + Drop> Drop for Yard<L, D> {
+    fn drop(self) {
+        let Yard {
+            register,
+            dir,
+            rules,
+            installation,
+            begun: _,
+        } = self;
+        drop(register);
+        drop(dir);
+        drop(rules);
+        drop(installation);
+    }
 }
 
 impl<L: Assumptions, D: Dir + Drop> Yard<L, D> {

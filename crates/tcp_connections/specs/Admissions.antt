@@ -1,27 +1,22 @@
 -- How many connections a server let in, and when it ends by faults of accepting.
 use Rattle.std.specs.Option.{ForSome}
-use Rattle.std.specs.Prelude.{◌≡◌, ◌≢◌, ◌+◌, ◌≤◌, ◌&&◌, ◌⊎◌, ℕ, Bool, true, false, nat_le, nat_lt, Option, None, Some, ⊤}
-use Rattle.tcp_connections.specs.declared.admission.AdmitOutcome.{AdmitOutcome}
-use Rattle.tcp_connections.specs.declared.admission.AdmitOutcome.TheVariants.{In, Refused, Spent}
+use Rattle.std.specs.Prelude.{◌≡◌, ◌≢◌, ◌+◌, ◌≤◌, ◌&&◌, ◌⊎◌, ℕ, Bool, true, false, nat_le, nat_lt, Option, None, Some, Result, Ok, Err, ⊤}
+use Rattle.tcp_connections.specs.declared.admission.Refused.{Refused}
+use Rattle.tcp_connections.specs.declared.admission.Refused.TheVariants.{Once, Spent}
 use Rattle.tcp_connections.specs.declared.admission.ServeEnd.{ServeEnd}
 use Rattle.tcp_connections.specs.declared.admission.ServeEnd.TheVariants as end
 use Rattle.tcp_connections.specs.declared.supply.Memory.{Memory}
 use Rattle.tcp_connections.specs.declared.supply.Supply.{Supply}
 
 -- what came of a connection, by how many were let in before and after it; nothing is said once no number is left
-abbrev pub LetsIn : {T E : Type 0} → AdmitOutcome T E → (old new : ℕ) → Type 0
-LetsIn (In work) old new = new ≡ old + 1
-LetsIn (Refused why) old new = new ≡ old
-LetsIn Spent old new = ⊤
-
--- what is said of a connection that was let in
-abbrev pub IfIn : {T E : Type 0} → AdmitOutcome T E → (T → Type 0) → Type 0
-IfIn (In work) P = P work
-IfIn outcome P = ⊤
+abbrev pub LetsIn : {T E : Type 0} → Result T (Refused E) → (old new : ℕ) → Type 0
+LetsIn (Ok work) old new = new ≡ old + 1
+LetsIn (Err (Once why)) old new = new ≡ old
+LetsIn (Err Spent) old new = ⊤
 
 -- what is said once no number is left
-abbrev pub OnSpent : {T E : Type 0} → AdmitOutcome T E → Type 0 → Type 0
-OnSpent Spent P = P
+abbrev pub OnSpent : {T E : Type 0} → Result T (Refused E) → Type 0 → Type 0
+OnSpent (Err Spent) P = P
 OnSpent outcome P = ⊤
 
 -- a server that ended by its count let in exactly that many

@@ -1,6 +1,5 @@
 //! Where connections come from.
 use child_jobs::Local;
-use std::io::{Read, Write};
 use std::time::Duration;
 
 /// An error of accepting: no connection was given.
@@ -53,15 +52,14 @@ pub struct Accepted<S> {
 
 /// Where connections come from, for many threads at once.
 pub trait Acceptor {
-    /// One of those who hold the stream of a connection.
-    type Holder: Read + Write + Shut + Send + Drop;
+    /// A connection that came.
+    type Came: Send + Drop;
 
-    /// Waits for the next connection. Each connection is given to one of the threads that wait. `None` if it found no
-    /// memory, and was closed.
+    /// Waits for the next connection. Each connection is given to one of the threads that wait.
     ///
     /// # Errors
     /// There is no connection; the call may be made again.
-    fn accept(&self) -> Result<Option<Accepted<Self::Holder>>, AcceptError>;
+    fn accept(&self) -> Result<Self::Came, AcceptError>;
 
     /// Ends the waits of all threads, whose calls fail then, as do those that follow.
     fn wake(&self);

@@ -1,6 +1,6 @@
 //! Where connections are let in, and what serves them.
-ghost use Rattle.std.specs.Prelude.{◌≡◌, ℕ, Bool, Option, false, IsTrue};
-ghost use Rattle.tcp_connections.specs.Admissions.{IfIn, LetsIn, OnSpent};
+ghost use Rattle.std.specs.Prelude.{◌≡◌, ℕ, Bool, Option, false, IsTrue, IfOk};
+ghost use Rattle.tcp_connections.specs.Admissions.{LetsIn, OnSpent};
 
 /// How a server ended.
 #[derive(Clone, Copy)]
@@ -17,13 +17,12 @@ pub enum ServeEnd {
     OutOfMemory,
 }
 
-/// What came of a connection.
-pub enum AdmitOutcome<T, E> {
-    /// It was let in.
-    In(T),
-    /// It was refused, for this reason.
-    Refused(E),
-    /// It was refused, and so are all that follow: the last serial number, or the last number of an event, was used.
+/// That a connection was refused.
+#[derive(Drop)]
+pub enum Refused<E> {
+    /// Only this one was, for this reason: others may be let in.
+    Once(E),
+    /// This one was, and so are all that follow: the last serial number, or the last number of an event, was used.
     Spent,
 }
 
@@ -34,9 +33,6 @@ pub trait Admission {
 
     /// A connection that was let in.
     type Work;
-
-    /// Why one is refused.
-    type Refusal: Send + Drop;
 
     /// Whether what was let in is the connection that came.
     ghost is_its: { Self.Came → Self.Work → Type 0 };
@@ -53,9 +49,12 @@ pub trait Admission {
     /// The last serial number, or the last number of an event, was seen given.
     ghost is_spent: { Self → Bool };
 
-    /// Lets a connection in. A refused one is closed.
-    fn admit(&mut self, came: Self::Came) -> AdmitOutcome<Self::Work, Self::Refusal>
-        ensures its { IfIn result (is_its came) }
+    /// Lets a connection in.
+    ///
+    /// # Errors
+    /// It was refused, and is closed.
+    fn admit(&mut self, came: Self::Came) -> Result<Self::Work, Refused<()>>
+        ensures its { IfOk result (is_its came) }
         ensures came { LetsIn result (let_in self.old) (let_in self.new) }
         ensures spent { OnSpent result (IsTrue (is_spent self.new)) };
 
@@ -85,9 +84,6 @@ pub trait Serving {
 
     /// Whether a connection that is over was retired.
     ghost retired: { Self.Over → Bool };
-
-    /// Whether what clients send is passed on. Each worker has a second thread for that.
-    fn passes_up(&self) -> bool;
 
     /// Serves a connection up to the start of its program. The answer has the stream from the client, if that is to be
     /// passed on.

@@ -3,7 +3,7 @@ ghost use Rattle.std.specs.Prelude.{◌≡◌, ◌⊎◌, IfSome, IsTrue, Some};
 ghost use Rattle.tcp_connections.specs.Admissions.{EndsAtCount, LetsInAtMost};
 ghost use Rattle.tcp_connections.specs.declared.admission.ServeEnd.TheVariants.{AcceptFaults, Count, NoPlaces, Spent};
 
-use crate::accepting::{AcceptError, Accepted, Acceptor};
+use crate::accepting::{AcceptError, Acceptor};
 use crate::admission::{Admission, ServeEnd};
 use crate::door::{Door, Errors};
 use crate::means::{Means, Permit};
@@ -31,7 +31,8 @@ impl<A: Acceptor + Drop, Q: Admission> Arrivals<A, Q> {
         }
     }
 
-    /// Ends the server, since there is no memory for it or no thread that serves anybody.
+    /// Ends the server: all places are retired, or there is no memory for it or no thread that serves anybody. If it has
+    /// ended before, how it did stays. The acceptor is dropped in any case.
     pub fn give_up<R: Wait>(&self, rt: &R, means: &Means) {
         self.door.lock(rt).give_up();
         self.end(rt, means);
@@ -55,17 +56,8 @@ impl<A: Acceptor + Drop, Q: Admission> Arrivals<A, Q> {
         }
     }
 
-    /// Ends the server, since all places are retired.
-    pub fn end_without_places<R: Wait>(&self, rt: &R, means: &Means) {
-        self.door.lock(rt).look_for_places();
-        self.end(rt, means);
-    }
-
     /// Waits for the next connection. `None` once no more come.
-    pub fn accept<R: Wait>(
-        &self,
-        rt: &R,
-    ) -> Option<Result<Option<Accepted<A::Holder>>, AcceptError>> {
+    pub fn accept<R: Wait>(&self, rt: &R) -> Option<Result<A::Came, AcceptError>> {
         Some(self.acceptor.read(rt).as_ref()?.accept())
     }
 

@@ -5,7 +5,7 @@ ghost use Rattle.tcp_connections.specs.Admissions.{EndsAtCount, LetsInAtMost};
 ghost use Rattle.tcp_connections.specs.declared.admission.ServeEnd.TheVariants.{AcceptFaults, Count, NoPlaces, Spent};
 
 use crate::accepting::AcceptError;
-use crate::admission::{Admission, AdmitOutcome, ServeEnd};
+use crate::admission::{Admission, Refused, ServeEnd};
 use crate::supply::Supply;
 use std::time::Duration;
 
@@ -157,14 +157,14 @@ impl<Q: Admission> Door<Q> {
     {
         self.errors.end();
         match self.admission.admit(came) {
-            AdmitOutcome::In(work) => {
+            Ok(work) => {
                 if let Some(left) = self.left {
                     self.left = Some(left - 1);
                 }
                 Some(work)
             }
-            AdmitOutcome::Refused(_) => None,
-            AdmitOutcome::Spent => {
+            Err(Refused::Once(())) => None,
+            Err(Refused::Spent) => {
                 self.end = Some(ServeEnd::Spent);
                 None
             }
@@ -200,22 +200,20 @@ impl<Q: Admission> Door<Q> {
         }
     }
 
-    /// Ends the server if all places are retired.
-    pub fn look_for_places(&mut self)
-        ensures same { self.new.errors ≡ self.old.errors }
-    {
-        if !self.is_over() && !self.admission.has_places() {
-            self.end = Some(ServeEnd::NoPlaces);
-        }
-    }
-
-    /// Ends the server, since there is no memory for it or no thread that serves anybody, unless it has ended.
+    /// Ends the server, unless it has ended: all places are retired, or else there is no memory for it or no thread that
+    /// serves anybody.
     pub fn give_up(&mut self)
         ensures kept { self.old.end ≢ None → self.new.end ≡ self.old.end }
+        ensures same { self.new.errors ≡ self.old.errors }
     {
-        if !self.is_over() {
-            self.end = Some(ServeEnd::OutOfMemory);
+        if self.is_over() {
+            return;
         }
+        self.end = if self.admission.has_places() {
+            Some(ServeEnd::OutOfMemory)
+        } else {
+            Some(ServeEnd::NoPlaces)
+        };
     }
 
     /// How the server ended, its admission, and the errors of accepting that came last.

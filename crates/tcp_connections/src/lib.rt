@@ -22,7 +22,7 @@ mod threads;
 pub mod workers;
 
 pub use accepting::{AcceptError, Accepted, Acceptor, Follow, Patience, Shut};
-pub use admission::{Admission, AdmitOutcome, ServeEnd, Serving};
+pub use admission::{Admission, Refused, ServeEnd, Serving};
 pub use door::Errors;
 pub use names::HostNames;
 pub use rounds::wait_in_rounds;

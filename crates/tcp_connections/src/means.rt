@@ -49,17 +49,6 @@ pub(crate) struct Permit {
     begins: bool,
 }
 
-/// What whoever makes workers has to do.
-#[derive(Clone, Copy)]
-pub(crate) enum Want {
-    /// One more is wanted.
-    Worker,
-    /// All connections are retired, so nobody can be served any more.
-    NoPlaces,
-    /// Nobody is let in any more.
-    End,
-}
-
 impl Held {
     // How many connections are served.
     fn served(&self) -> u64 {
@@ -75,18 +64,14 @@ impl Held {
             && self.left != Some(0)
     }
 
-    // What whoever makes workers has to do, if there may be this many; `None` while it waits.
-    fn want(&self, most: u64) -> Option<Want> {
-        if self.is_over {
-            return Some(Want::End);
-        }
-        if self.retired >= most {
-            return Some(Want::NoPlaces);
-        }
-        if self.at_door == 0 && self.workers < most && self.left != Some(0) {
-            return Some(Want::Worker);
-        }
-        None
+    // Whether nobody more can be let in, if there may be this many connections: the server is over, or all are retired.
+    fn has_ended(&self, most: u64) -> bool {
+        self.is_over || self.retired >= most
+    }
+
+    // Whether one more worker is wanted, if there may be this many.
+    fn wants_worker(&self, most: u64) -> bool {
+        self.at_door == 0 && self.workers < most && self.left != Some(0)
     }
 
     // A worker is at the door, a new one or one that comes back.
@@ -248,7 +233,7 @@ impl Means {
 
     // Lets the lock go, wakes those who wait for a change, and whoever makes workers if there is something to do.
     fn free(&self, held: MutexGuard<'_, Held>) {
-        let is_wanted = held.want(self.most).is_some();
+        let is_wanted = held.has_ended(self.most) || held.wants_worker(self.most);
         drop(held);
         self.freed.notify_all();
         if is_wanted {
@@ -264,13 +249,13 @@ impl Means {
         );
     }
 
-    /// Waits until whoever makes workers has something to do.
-    pub fn wait_for_want<R: Wait>(&self, rt: &R) -> Want {
+    /// Waits until one more worker is wanted. `false` once nobody more can be let in.
+    pub fn wait_for_want<R: Wait>(&self, rt: &R) -> bool {
         let most = self.most;
-        let held = self
-            .wanted
-            .wait_while(rt, self.held.lock(rt), |held| held.want(most).is_none());
-        held.want(most).unwrap_or(Want::End)
+        let held = self.wanted.wait_while(rt, self.held.lock(rt), |held| {
+            !held.has_ended(most) && !held.wants_worker(most)
+        });
+        !held.has_ended(most)
     }
 
     /// Waits before the next try to make a thread, but no longer once nobody can be served any more.
@@ -278,12 +263,8 @@ impl Means {
         let most = self.most;
         let held = self.held.lock(rt);
         drop(
-            self.wanted.wait_timeout_while(
-                rt,
-                held,
-                pause,
-                |held| !held.is_over && held.retired < most,
-            ),
+            self.wanted
+                .wait_timeout_while(rt, held, pause, |held| !held.has_ended(most)),
         );
     }
 

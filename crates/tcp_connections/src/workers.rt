@@ -4,12 +4,12 @@ ghost use Rattle.std.specs.Thread.{IsSend, IsSync};
 ghost use Rattle.tcp_connections.specs.Admissions.{EndsAtCount, FailedToAccept, LetsInAtMost, suffices};
 ghost use Rattle.tcp_connections.specs.declared.admission.ServeEnd.TheVariants.{AcceptFaults, Count, NoPlaces, Spent};
 
-use crate::accepting::{Accepted, Acceptor};
+use crate::accepting::Acceptor;
 use crate::admission::{Admission, ServeEnd, Serving};
 use crate::arrivals::Arrivals;
 use crate::door::{Door, Errors, Pause};
 use crate::handover::Handover;
-use crate::means::{Means, Permit, Want};
+use crate::means::{Means, Permit};
 use crate::supply::{MemoryLook, Reserve, Supply};
 use crate::threads::{
     GoingOn, Second, connection_thread, has_processes, start_going_on, start_passing_up,
@@ -53,14 +53,14 @@ impl<'a, R, V, A> Workers<'a, R, V, A>
 where
     R: Threads + Wait + Clock + Sync,
     V: Serving + Sync,
-    V::Entrance: Admission<Came = Option<Accepted<A::Holder>>> + Send + Drop,
+    V::Entrance: Admission<Came = A::Came> + Send + Drop,
     A: Acceptor + Send + Sync + Drop,
 {
     /// Lets connections of `acceptor` in until `count` were let in or no more can be. Then it drops the acceptor, waits
     /// until all that were let in are over, and gives `entrance` back with the errors of accepting that came last. At most
     /// `most` connections are alive at once. Each worker accepts one, lets it in, and serves it until its program runs. It
     /// goes on with few itself, and with one of many a thread does that ends with it. A second thread passes on what the
-    /// client sends, if `server` does that. This thread makes one more worker whenever none waits for a connection.
+    /// client sends, if `supply` says so. This thread makes one more worker whenever none waits for a connection.
     ///
     /// The count begins at 0, since nobody was let in by `entrance` before. By faults of accepting it ends only if the
     /// last hundred answers of the acceptor were errors, or if `supply` doesn't suffice for one connection. For want of
@@ -131,18 +131,13 @@ where
         );
     }
 
-    // Makes one more worker whenever none is at the door, until no more connections come. If that fails, it pauses and
-    // tries again. A server that can't make its first worker ends.
+    // Makes one more worker whenever none is at the door, until nobody more can be let in. If a worker can't be made, it
+    // pauses and tries again. A server that can't make its first worker ends.
     fn make_workers<'s, 'e>(&'s self, scope: &'s Scope<'s, &'e ()>) {
         let (mut pause, mut left, mut is_made) = (Pause::first(), TRIES, false);
         for _ in self.rt.forever() {
-            match self.means.wait_for_want(self.rt) {
-                Want::Worker => {}
-                Want::NoPlaces => {
-                    self.arrivals.end_without_places(self.rt, self.means);
-                    return;
-                }
-                Want::End => return,
+            if !self.means.wait_for_want(self.rt) {
+                break;
             }
             if self.make_worker(scope) {
                 is_made = true;
@@ -151,11 +146,11 @@ where
             }
             left = left.saturating_sub(1);
             if left == 0 && !is_made {
-                self.arrivals.give_up(self.rt, self.means);
-                return;
+                break;
             }
             self.means.pause(self.rt, pause.next());
         }
+        self.arrivals.give_up(self.rt, self.means);
     }
 
     // Makes a worker, if there is a thread for it and what its connection would take beside those that begin now.
@@ -164,10 +159,7 @@ where
         let workers = usize::try_from(self.means.workers(self.rt)).unwrap_or(usize::MAX);
         let workers = workers.saturating_add(1);
         let mut stays = false;
-        let threads = if self.server.passes_up() { 2 } else { 1 };
-        if self.memory.has_stacks(workers, threads)
-            && self.start_worker(scope, workers, beginning)
-        {
+        if self.memory.has_stacks(workers) && self.start_worker(scope, workers, beginning) {
             self.came_up.finish(self.rt);
             stays = self.came_up.take(self.rt) == Some(true);
         }
@@ -220,7 +212,7 @@ where
         scope: &'s Scope<'s, &'e ()>,
         second: &mut Option<Second<V::Upward>>,
     ) -> bool {
-        if second.is_none() && self.server.passes_up() {
+        if second.is_none() && self.memory.wants_second() {
             *second = self.start_second(scope);
             return second.is_some();
         }
@@ -275,7 +267,7 @@ where
         &'s self,
         scope: &'s Scope<'s, &'e ()>,
         permit: Permit,
-        came: Option<Accepted<A::Holder>>,
+        came: A::Came,
         second: &mut Option<Second<V::Upward>>,
     ) {
         let Some(work) = self.arrivals.admit(self.rt, self.means, &permit, came) else {

@@ -108,14 +108,14 @@ same_such is_such program environment first job same its =
 -- the program that was started was ended by force, if the connection is over
 pub forced_if : {R O J : Type 0} (unserved : O → Type 0) (is_such : ProgramText → Variables → Type 0) (last : O → Option Event)
     (kills : Kills J) (fails : FailsToWait J) (ends : EndsAs J) (program : J → ProgramText) (environment : J → Variables) (first : J)
-    (own serial : ℕ) → own ≡ serial → is_such (program first) (environment first) → (r : Result R O)
-    → IfErr r (λ over. OfSameChild program environment first (λ job. IsEndOfChild kills fails ends true job (last over) own))
+    (serial : ℕ) → is_such (program first) (environment first) → (r : Result R O)
+    → IfErr r (λ over. OfSameChild program environment first (λ job. IsEndOfChild kills fails ends true job (last over) serial))
     → IfErr r (λ over. unserved over ⊎ IsEndedByForce is_such program environment kills fails ends serial (last over))
-forced_if unserved is_such last kills fails ends program environment first own serial same its (Ok begun) ended = tt
-forced_if unserved is_such last kills fails ends program environment first own serial same its (Err over) ended = inr (record {
+forced_if unserved is_such last kills fails ends program environment first serial its (Ok begun) ended = tt
+forced_if unserved is_such last kills fails ends program environment first serial its (Err over) ended = inr (record {
   job = ended.job;
   such = same_such is_such program environment first ended.job ended.same its;
-  ended = subst (λ (n : ℕ). IsEndOfChild kills fails ends true ended.job (last over) n) same ended.so;
+  ended = ended.so;
 })
 
 -- and runs, if it goes on

@@ -1,5 +1,5 @@
 -- How the life of a connection begins, and what was told last of it.
-use Rattle.std.specs.Prelude.{◌≡◌, ◌⊎◌, ◌-◌, ◌^◌, ℕ, Bool, true, false, Option, Some, ⊤, option_and_then}
+use Rattle.std.specs.Prelude.{◌≡◌, ◌⊎◌, ◌-◌, ◌^◌, ℕ, Bool, true, false, Option, Some, Result, IfOk, option_and_then}
 use Rattle.child_jobs.specs.Plans.{PlanText}
 use Rattle.child_jobs.specs.Programs.{ProgramText}
 use Rattle.child_jobs.specs.Runs.{IsSameChild}
@@ -15,16 +15,13 @@ use Rattle.server_events.specs.declared.event.Event.TheVariants.{Admitted, Dropp
 use Rattle.server_yard.specs.Seating.{leaver}
 use Rattle.shared_site.specs.Receipts.{made_event}
 use Rattle.shared_site.specs.declared.receipt.Made.{Made}
-use Rattle.tcp_connections.specs.declared.admission.AdmitOutcome.{AdmitOutcome}
-use Rattle.tcp_connections.specs.declared.admission.AdmitOutcome.TheVariants.{In}
 use Rattle.tcp_connections.specs.Rounds.{AllFail, EndsAs, FailsToWait, Kills, OneEnds, rounds}
 use Rattle.child_jobs.specs.Ends.{LocalEnd}
 use Rattle.child_jobs.specs.Variables.{Variables}
 
 -- where a client is let in, the event that was made is the admission of it, by the serial that it has
-abbrev pub AdmitsOwn : {P E : Type 0} → AdmitOutcome (ℕ × P × Made) E → Client → Type 0
-AdmitsOwn (In r) client = made_event r.2 ≡ Admitted r.0 client
-AdmitsOwn outcome client = ⊤
+abbrev pub AdmitsOwn : {P E : Type 0} → Result (ℕ × P × Made) E → Client → Type 0
+AdmitsOwn answer client = IfOk answer (λ r. made_event r.2 ≡ Admitted r.0 client)
 
 -- the last that was asked of the site is the end of the connection with a serial: that it goes, or is retired
 abbrev pub IsEndOf : Option Event → (serial : ℕ) → Type 0

@@ -3,9 +3,8 @@
 ghost use Rattle.std.specs.Prelude.{◌≡◌, None};
 
 use crate::host::{AgentGround, Rules, RulesHandle};
-use crate::reasons::{Reason, cause_of_absence, cause_of_damage};
+use crate::reasons::{Reason, cause_of_absence, cause_of_damage, words_of};
 use crate::server::AgentContext;
-use byte_text::words_of_error;
 use child_jobs::{DropCause, Exit, Job, Local, NotStarted, Place, Running};
 use one_connection::{Agent, cause_of_open, decide_by_pass};
 use rule_lookup::{DecideFault, Decision, Peer};
@@ -33,7 +32,7 @@ pub(crate) struct LoggedAgent<'a, G: AgentGround> {
     // what the connection opened the rules by
     handle: Option<G::Handle>,
     // and what it found
-    found: FoundBy<G>,
+    pub(crate) found: FoundBy<G>,
     // what the site answered last, which says how far the connection has come
     pub(crate) last: Option<Result<Made, OutOfTurn>>,
 }
@@ -64,14 +63,6 @@ impl<G: AgentGround> LoggedAgent<'_, G> {
     ghost use Rattle.server_events.specs.declared.event.Event.TheVariants as event;
     ghost use Rattle.server_yard.specs.Passes.{finding_file, pass_file, pass_serial};
     ghost use Rattle.tcp_service.specs.Agents.{IsAnswer, asked, made};
-
-    /// What the connection found when it opened the rules, if it came to that.
-    pub(crate) fn into_found(self) -> FoundBy<G>
-        ensures its { result ≡ self.entry.found }
-    {
-        let LoggedAgent { found, .. } = self;
-        found
-    }
 
     // A turn of the caller that makes the events of connections.
     fn turn<T: Turn<G>>(&self, turn: T) -> T::Answer
@@ -131,8 +122,8 @@ impl<G: AgentGround> LoggedAgent<'_, G> {
         let (alloc, rules) = (self.context.alloc, self.context.rules);
         match cause {
             DropCause::Directory | DropCause::ReadFault => {
-                let error = rules.error(self.handle.as_ref()?)?;
-                Some(Reason::Rules(words_of_error(alloc, error).ok()?))
+                let error = rules.error(self.handle.as_ref()?);
+                Some(Reason::Rules(words_of(alloc, error)?))
             }
             DropCause::Damaged => Some(Reason::Rule(rules.damaged_rule(alloc, peer)?)),
             _ => None,
@@ -306,7 +297,7 @@ impl<G: AgentGround> Agent<G::Places> for LoggedAgent<'_, G> {
         refusal: NotStarted,
     ) {
         let NotStarted { fault, error } = refusal;
-        let why = error.and_then(|error| words_of_error(self.context.alloc, error).ok());
+        let why = words_of(self.context.alloc, error);
         let program = self.context.plan.program().path().as_bytes();
         let cause = why.as_ref().map(|why| Cause::new(program, why.as_str()));
         let told = Told::StartFailed {
@@ -320,6 +311,7 @@ impl<G: AgentGround> Agent<G::Places> for LoggedAgent<'_, G> {
             leaving: Leaving::StartFailed(fault),
         };
         self.last = Some(self.tell(turn, told));
+        drop(why);
     }
 
     #[tactic(auto, using(crate::proofs::Asked::asked_for))]

@@ -1,13 +1,11 @@
 //! How a connection that was accepted is let in: named and counted.
-ghost use Rattle.std.specs.Prelude.{◌≡◌, ◌-◌, ◌^◌, ⊤, IfOk, IfSome, IsTrue, is_some};
+ghost use Rattle.std.specs.Prelude.{◌≡◌, ◌-◌, ◌^◌, ⊤, IfSome, IsTrue, Some, is_some};
 ghost use Rattle.server_yard.specs.declared.register.AdmitFault.TheVariants.{Spent};
 ghost use Rattle.shared_site.specs.Callers.{caller_share};
 ghost use Rattle.shared_site.specs.Receipts.{AdmitsOrNot, receipt_of, refusal_fault};
 ghost use Rattle.shared_site.specs.Turns.{told_if_admitted};
 ghost use Rattle.tcp_connections.specs.Admissions.{LetsIn, OnSpent};
 ghost use Rattle.tcp_connections.specs.Names.{client_at, local_at};
-ghost use Rattle.tcp_connections.specs.declared.admission.AdmitOutcome.TheVariants as outcome;
-ghost use Rattle.tcp_service.specs.declared.entrance.Refused.TheVariants.{OutOfMemory};
 ghost use Rattle.tcp_service.specs.Accepting.{IsAccepted};
 ghost use Rattle.tcp_service.specs.Lives.{AdmitsOwn};
 
@@ -21,19 +19,10 @@ use server_log::{Log, Told};
 use server_yard::{AdmitFault, Assumptions, Leaving};
 use shared_site::site::{Admit, Left};
 use shared_site::{AllRetired, CallerOf, Ground, Made, Refusal, Turn, YardOf};
-use std::alloc::{AllocError, Global};
+use std::alloc::Global;
 use std::snapshot::Snapshot;
 use std::sync::Mutex;
-use tcp_connections::{Accepted, Admission, AdmitOutcome, HostNames};
-
-/// Why a connection was refused.
-#[derive(Drop)]
-pub enum Refused {
-    /// There was no memory for it.
-    OutOfMemory,
-    /// Its site has not let it in.
-    BySite(Refusal),
-}
+use tcp_connections::{Accepted, Admission, HostNames, Refused};
 
 /// Evidence that no number is left, of a connection or of an event.
 #[derive(Drop)]
@@ -77,11 +66,6 @@ impl<L: Assumptions> Seen<L> {
     }
 }
 
-/// What came of a connection, and of its turn at the site.
-type LetIn<'a, H> = AdmitOutcome<Admitted<'a, H>, Refused>;
-
-type Counted<G> = AdmitOutcome<AdmittedBy<G>, Refusal>;
-
 /// Lets the connections of an acceptor in, by a caller of a site that makes no other events: its share is how many were
 /// let in.
 #[derive(Drop)]
@@ -100,8 +84,6 @@ where
 
     type Work = Admitted<'a, H>;
 
-    type Refusal = Refused;
-
     ghost is_its = { λ came work. IfSome came
         (IsAccepted work.server.now.service.now.names work.peer work.local work.streams) };
 
@@ -113,18 +95,16 @@ where
 
     ghost is_spent = { λ entrance. is_some entrance.seen.spent };
 
-    fn admit(&mut self, came: Option<Accepted<H::Holder>>) -> LetIn<'a, H> {
+    fn admit(&mut self, came: Option<Accepted<H::Holder>>) -> Result<Admitted<'a, H>, Refused<()>> {
         let server = self.server;
         let context = &server.context;
-        let Some(accepted) = came else {
-            return lack_memory(context);
-        };
-        let Ok((peer, local)) = ends_of(context.alloc, &server.service.names, &accepted) else {
-            drop(accepted);
-            return lack_memory(context);
+        let Some((accepted, peer, local)) = ends_of(context.alloc, &server.service.names, came)
+        else {
+            let _ = context.log.lock(context.rt).out_of_memory();
+            return Err(Refused::Once(()));
         };
         match admit(context, &mut self.admitter, &mut self.seen.spent, &peer) {
-            AdmitOutcome::In((serial, place, made)) => AdmitOutcome::In(Admitted {
+            Ok((serial, place, made)) => Ok(Admitted {
                 server,
                 serial,
                 place,
@@ -133,13 +113,14 @@ where
                 streams: ClientStreams::of(accepted),
                 made: Snapshot::of(&made),
             }),
-            AdmitOutcome::Refused(refusal) => {
-                let_go(accepted, peer, local);
-                AdmitOutcome::Refused(Refused::BySite(refusal))
-            }
-            AdmitOutcome::Spent => {
-                let_go(accepted, peer, local);
-                AdmitOutcome::Spent
+            Err(refused) => {
+                drop(accepted);
+                drop(peer);
+                drop(local);
+                match refused {
+                    Refused::Once(_) => Err(Refused::Once(())),
+                    Refused::Spent => Err(Refused::Spent),
+                }
             }
         }
     }
@@ -156,34 +137,22 @@ where
     }
 }
 
-// The two ends of a connection, with their names.
-fn ends_of<S>(
+// A connection that came, with its two ends and their names. If there is no memory for them, it is closed.
+fn ends_of<S: Drop>(
     alloc: Global,
     names: &HostNames,
-    accepted: &Accepted<S>,
-) -> Result<(Peer, Local), AllocError>
-    ensures client { IfOk result (λ ends. ends.0 ≡ client_at names.now accepted.now.ip accepted.now.port) }
-    ensures end { IfOk result (λ ends.
-        ends.1 ≡ local_at names.now accepted.now.local.ip accepted.now.local.port) }
+    came: Option<Accepted<S>>,
+) -> Option<(Accepted<S>, Peer, Local)>
+    ensures its { IfSome result (λ named. came ≡ Some named.0) }
+    ensures client { IfSome result (λ named. named.1 ≡ client_at names.now named.0.ip named.0.port) }
+    ensures end { IfSome result (λ named. named.2 ≡ local_at names.now named.0.local.ip named.0.local.port) }
 {
-    let peer = names.peer(alloc, accepted.ip, accepted.port)?;
-    let local = names.local(alloc, accepted.local.ip(), accepted.local.port())?;
-    Ok((peer, local))
-}
-
-// A connection has found no memory.
-fn lack_memory<G: AgentGround, W>(context: &AgentContext<'_, G>) -> AdmitOutcome<W, Refused>
-    ensures refused { result ≡ outcome.Refused OutOfMemory }
-{
-    let _ = context.log.lock(context.rt).out_of_memory();
-    AdmitOutcome::Refused(Refused::OutOfMemory)
-}
-
-// Closes a connection that was not let in.
-fn let_go<S: Drop>(accepted: Accepted<S>, peer: Peer, local: Local) {
-    drop(accepted);
-    drop(peer);
-    drop(local);
+    let accepted = came?;
+    let peer = names.peer(alloc, accepted.ip, accepted.port).ok()?;
+    let local = names
+        .local(alloc, accepted.local.ip(), accepted.local.port())
+        .ok()?;
+    Some((accepted, peer, local))
 }
 
 // Counts a connection: its serial, and its place. Once the last number of an event is given nobody is let in any more.
@@ -193,7 +162,7 @@ fn admit<G: AgentGround>(
     admitter: &mut CallerOf<G>,
     spent: &mut Option<NoNumbers>,
     peer: &Peer,
-) -> Counted<G>
+) -> Result<AdmittedBy<G>, Refused<Refusal>>
     ensures came { LetsIn result (caller_share admitter.old) (caller_share admitter.new) }
     ensures spent { OnSpent result (IsTrue (is_some spent.new)) }
     ensures own { AdmitsOwn result peer.now }
@@ -209,16 +178,16 @@ fn admit<G: AgentGround>(
                 };
                 let _ = site.turn(rt, admitter, turn);
                 *spent = Some(NoNumbers::of_event(&made));
-                return AdmitOutcome::Spent;
+                return Err(Refused::Spent);
             }
-            AdmitOutcome::In((serial, place, made))
+            Ok((serial, place, made))
         }
         Err(refusal) => match refusal.fault() {
             AdmitFault::Spent => {
                 *spent = Some(NoNumbers::of_refusal(&refusal));
-                AdmitOutcome::Spent
+                Err(Refused::Spent)
             }
-            _ => AdmitOutcome::Refused(refusal),
+            _ => Err(Refused::Once(refusal)),
         },
     }
 }

@@ -1,18 +1,18 @@
 //! The life of a connection at a site, from its admission to its end: each value of it is made of the one before, and
 //! none can be let go.
-ghost use Rattle.std.specs.Prelude.{◌≡◌, ◌⊎◌, None, Some, IfOk, IfErr, true, false};
+ghost use Rattle.std.specs.Prelude.{◌≡◌, Some, IfOk, IfErr, true};
 ghost use Rattle.child_jobs.specs.Runs.{IsSameChild, job_of, place_of};
 ghost use Rattle.one_connection.specs.Openings.{kept_opening};
 ghost use Rattle.server_events.specs.declared.event.Event.TheVariants.{Admitted as AdmittedEvent, Dropped as DroppedEvent};
 ghost use Rattle.shared_site.specs.Receipts.{made_event};
 ghost use Rattle.tcp_service.specs.Agents.{IsFoundFor, asked};
-ghost use Rattle.tcp_service.specs.Lives.{EndsWithReason, IsDecidedChild, IsEndOfChild, IsEndOf, IsEndedByForce, IsOwnChild, OfSameChild, retires};
+ghost use Rattle.tcp_service.specs.Lives.{EndsWithReason, IsEndOfChild, IsEndOf, IsOwnChild, OfSameChild, retires};
 
 use crate::agent::{FoundBy, LoggedAgent};
 use crate::host::{AgentGround, Host};
 use crate::pumping::{ClientStreams, Downward, Upward};
 use crate::server::Server;
-use crate::wrappers::{Chains, chains_of};
+use crate::wrappers::Chains;
 use child_jobs::{DropCause, Local, Place, Running};
 use one_connection::{Agent, Served, serve_one};
 use rule_lookup::Peer;
@@ -37,9 +37,9 @@ pub struct Admitted<'a, H: Host> {
 /// variables of the decision by what this very connection found, for its client and its end. It found that by a new
 /// handle of the rules, which was opened for it. It goes on as an `Alive`.
 pub(crate) struct Started<'a, H: Host> {
-    alive: Alive<'a, H>,
-    peer: Snapshot<Peer>,
-    found: FoundBy<H>,
+    pub(crate) alive: Alive<'a, H>,
+    pub(crate) peer: Snapshot<Peer>,
+    pub(crate) found: FoundBy<H>,
     ghost child: { IsOwnChild (kept_opening H.File.bytes found)
         (IsFoundFor H.Places.met (H.Rules.gives alive.server.now.context.rules.now) H.Handle.opened alive.serial)
         H.File.honest H.File.sound peer.value alive.local alive.server.now.context.plan.now
@@ -66,8 +66,11 @@ pub(crate) type Beginning<'a, H> = (
 type Ran<H> = (Running<<H as Ground>::Places, <H as Host>::Job>, FoundBy<H>);
 
 impl<H: Host> Server<'_, H> {
-    // Serves a connection up to the start of its program.
-    fn serve(
+    /// Serves a connection up to the start of its program.
+    ///
+    /// # Errors
+    /// It is over, and its streams are left.
+    pub(crate) fn serve(
         &self,
         serial: u64,
         place: Place<H::Places>,
@@ -96,7 +99,10 @@ impl<H: Host> Server<'_, H> {
         match serve_one(
             alloc, &mut agent, place, serial, peer, local, plan, launcher, writer,
         ) {
-            Served::Running(running) => Ok((running, agent.into_found())),
+            Served::Running(running) => {
+                let LoggedAgent { found, .. } = agent;
+                Ok((running, found))
+            }
             Served::Denied | Served::StartFailed(_) | Served::Dropped(_) => {
                 let over = Over::of(&agent, serial, false);
                 drop(agent);
@@ -105,9 +111,9 @@ impl<H: Host> Server<'_, H> {
         }
     }
 
-    // Waits for a program in rounds, ends its connection, and only then tells how the program ended. So a slow log
-    // keeps no client waiting.
-    fn see_out(
+    /// Waits for a program in rounds, ends its connection, and only then tells how the program ended. So a slow log
+    /// keeps no client waiting.
+    pub(crate) fn see_out(
         &self,
         serial: u64,
         running: Running<H::Places, H::Job>,
@@ -133,69 +139,8 @@ impl<H: Host> Server<'_, H> {
 }
 
 impl<'a, H: Host> Admitted<'a, H> {
-    /// It is served, and goes on if its program was started.
-    ///
-    /// # Errors
-    /// It is over: it was denied or given up, its program could not be started, or its program had no pipe ends and was
-    /// killed.
-    pub(crate) fn begin(self) -> Result<Beginning<'a, H>, Over>
-        ensures own { IfOk result (λ begun. begun.1.serial ≡ self.entry.serial) }
-        ensures child { IfOk result (λ begun. IsDecidedChild
-            (IsFoundFor H.Places.met (H.Rules.gives self.entry.server.now.context.rules.now) H.Handle.opened self.entry.serial)
-            H.File.honest H.File.sound self.entry.peer self.entry.local self.entry.server.now.context.plan.now
-            (H.Job.program (job_of begun.1.running)) (H.Job.environment (job_of begun.1.running))) }
-        ensures over { IfErr result (λ over. over.serial ≡ self.entry.serial) }
-        ensures reason { IfErr result (λ over. EndsWithReason
-            (IsFoundFor H.Places.met (H.Rules.gives self.entry.server.now.context.rules.now) H.Handle.opened self.entry.serial)
-            H.File.honest H.File.sound self.entry.peer self.entry.local self.entry.server.now.context.plan.now
-            (H.Starter.refuses self.entry.server.now.starter.now self.entry.streams.shut) self.entry.serial
-            (asked over.last.value)
-            ⊎ IsEndedByForce (IsDecidedChild
-            (IsFoundFor H.Places.met (H.Rules.gives self.entry.server.now.context.rules.now) H.Handle.opened self.entry.serial)
-            H.File.honest H.File.sound self.entry.peer self.entry.local self.entry.server.now.context.plan.now)
-            H.Job.program H.Job.environment H.Job.killed H.Job.refused_wait H.Job.ended self.entry.serial
-            (asked over.last.value)) }
-    {
-        let (alloc, service) = (self.server.context.alloc, self.server.service);
-        let Ok(chains) = chains_of(alloc, service) else {
-            return Err(self.give_up(DropCause::Memory));
-        };
-        let Admitted {
-            server,
-            serial,
-            place,
-            peer,
-            local,
-            mut streams,
-            made: _,
-        } = self;
-        match server.serve(serial, place, &peer, &local, &mut streams) {
-            Ok((running, found)) => {
-                let alive = Alive {
-                    server,
-                    serial,
-                    running,
-                    local,
-                    downward: None,
-                };
-                let kept = Snapshot::of(&peer);
-                drop(peer);
-                let peer = kept;
-                let started = Started { alive, peer, found };
-                started.go_on().pass_on(streams, chains)
-            }
-            Err(over) => {
-                drop(chains);
-                streams.end();
-                drop(local);
-                drop(peer);
-                Err(over)
-            }
-        }
-    }
-
-    // It is given up for this cause.
-    fn give_up(self, cause: DropCause) -> Over
+    /// It is given up for this cause.
+    pub(crate) fn give_up(self, cause: DropCause) -> Over
         ensures own { result.serial ≡ self.entry.serial }
         ensures told { asked result.last.value ≡ Some (DroppedEvent self.entry.serial cause) }
     {
@@ -220,38 +165,32 @@ impl<'a, H: Host> Admitted<'a, H> {
 }
 
 impl<'a, H: Host> Started<'a, H> {
-    /// It goes on, in this thread or another one.
-    pub(crate) fn go_on(self) -> Alive<'a, H>
-        ensures same { result ≡ self.entry.alive }
+    /// It goes on, in this thread or another one. Without chains its program holds it. Otherwise its program's pipe ends
+    /// are taken, and its streams are passed on from now on.
+    ///
+    /// # Errors
+    /// Its program had no pipe ends, and was killed.
+    pub(crate) fn pass_on(
+        self,
+        streams: ClientStreams<H::Holder>,
+        chains: Option<Chains>,
+    ) -> Result<Beginning<'a, H>, Over>
+        ensures own { IfOk result (λ begun. begun.1.serial ≡ self.entry.alive.serial) }
+        ensures same { IfOk result (λ begun. IsSameChild H.Job.program H.Job.environment
+            (job_of self.entry.alive.running) (job_of begun.1.running)) }
+        ensures over { IfErr result (λ over. over.serial ≡ self.entry.alive.serial) }
+        ensures ended { IfErr result (λ over. OfSameChild H.Job.program H.Job.environment (job_of self.entry.alive.running)
+            (λ job. IsEndOfChild H.Job.killed H.Job.refused_wait H.Job.ended true job
+            (asked over.last.value) self.entry.alive.serial)) }
     {
         let Started {
             alive,
             peer: _,
             found: _,
         } = self;
-        alive
-    }
-}
-
-impl<'a, H: Host> Alive<'a, H> {
-    // Without chains its program holds it. Otherwise its program's pipe ends are taken, and its streams are passed on
-    // from now on.
-    fn pass_on(
-        self,
-        streams: ClientStreams<H::Holder>,
-        chains: Option<Chains>,
-    ) -> Result<Beginning<'a, H>, Over>
-        ensures own { IfOk result (λ begun. begun.1.serial ≡ self.entry.serial) }
-        ensures same { IfOk result (λ begun. IsSameChild H.Job.program H.Job.environment
-            (job_of self.entry.running) (job_of begun.1.running)) }
-        ensures over { IfErr result (λ over. over.serial ≡ self.entry.serial) }
-        ensures ended { IfErr result (λ over. OfSameChild H.Job.program H.Job.environment (job_of self.entry.running)
-            (λ job. IsEndOfChild H.Job.killed H.Job.refused_wait H.Job.ended true job
-            (asked over.last.value) self.entry.serial)) }
-    {
         let Some(chains) = chains else {
             drop(streams);
-            return Ok((None, self));
+            return Ok((None, alive));
         };
         let Alive {
             server,
@@ -259,7 +198,7 @@ impl<'a, H: Host> Alive<'a, H> {
             mut running,
             local,
             downward: _,
-        } = self;
+        } = alive;
         let Ok((to, from)) = running.ends() else {
             let _ = server
                 .context
@@ -281,27 +220,6 @@ impl<'a, H: Host> Alive<'a, H> {
             downward: Some(downward),
         };
         Ok((Some(upward), alive))
-    }
-
-    /// What its program says is passed on to the end, if the program does not hold it itself. Then the program is
-    /// waited for, and it ends.
-    pub(crate) fn finish(self) -> Over
-        ensures own { result.serial ≡ self.entry.serial }
-        ensures ended { IsEndOfChild H.Job.killed H.Job.refused_wait H.Job.ended false (job_of self.entry.running)
-            (asked result.last.value) self.entry.serial }
-    {
-        let Alive {
-            server,
-            serial,
-            running,
-            local,
-            downward,
-        } = self;
-        let shut = match downward {
-            Some(downward) => Some(server.pass_down(downward)),
-            None => None,
-        };
-        server.see_out(serial, running, &local, false, shut)
     }
 }
 

@@ -127,18 +127,6 @@ pub struct Downward<S, O> {
 }
 
 impl<H: Host> Server<'_, H> {
-    /// Passes on what the client sends, until the client ends its stream, or the program reads no more. Then it reads on,
-    /// up to the end of the connection or to so many bytes.
-    pub(crate) fn pass_up(&self, upward: Upward<H::Holder, H::Input>) {
-        let context = &self.context;
-        if self.service.recording {
-            let tap = context.recorder(upward.port, Way::Input);
-            pump_up(context.alloc, upward, tap);
-        } else {
-            pump_up(context.alloc, upward, NoTap);
-        }
-    }
-
     /// Passes on what the program writes until its output ends. The client's end of the connection is left.
     pub(crate) fn pass_down(&self, downward: Downward<H::Holder, H::Output>) -> H::Holder {
         let context = &self.context;
@@ -152,8 +140,8 @@ impl<H: Host> Server<'_, H> {
 }
 
 impl<G: AgentGround> AgentContext<'_, G> {
-    // The recorder of one way of a connection, which writes to the log.
-    fn recorder(
+    /// The recorder of one way of a connection, which writes to the log.
+    pub(crate) fn recorder(
         &self,
         port: u16,
         way: Way,
@@ -163,8 +151,8 @@ impl<G: AgentGround> AgentContext<'_, G> {
     }
 }
 
-// Pumps what a client sends to its program, and closes the program's end. What the program doesn't read is dropped.
-fn pump_up<S: Read + Drop, I: Write + Drop, T: Tap + Drop>(
+/// Pumps what a client sends to its program, and closes the program's end. What the program doesn't read is dropped.
+pub(crate) fn pump_up<S: Read + Drop, I: Write + Drop, T: Tap + Drop>(
     alloc: Global,
     upward: Upward<S, I>,
     tap: T,

@@ -1,7 +1,9 @@
 //! What the log tells of why a connection was denied or given up.
+use byte_text::words_of_error;
 use child_jobs::DropCause;
 use rule_lookup::{Decision, Found, Verdict};
 use server_log::Cause;
+use std::alloc::Global;
 
 /// Why a rules file that is not there can't be followed, in the words of the system.
 const ABSENT: &str = "No such file or directory";
@@ -27,6 +29,11 @@ impl Reason {
             Reason::Rule(address) => Cause::new(address.as_bytes(), "damaged rule"),
         }
     }
+}
+
+/// The system's words of an error with this number, if there is one and there is memory.
+pub(crate) fn words_of(alloc: Global, error: Option<i32>) -> Option<String> {
+    words_of_error(alloc, error?).ok()
 }
 
 /// What a person is told of a connection that was denied since there is no rules file.

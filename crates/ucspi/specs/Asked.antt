@@ -10,9 +10,9 @@ use Rattle.server_parts.specs.declared.sockets.SocketAcceptor.{SocketAcceptor}
 use Rattle.server_words.specs.Plans.{ServerPlan}
 use Rattle.tcp_service.specs.declared.server.Service.{Service}
 
--- what a server does for all connections: the limits of `-c`, `-k` and `-m`; names by `-N`, `-l`, `-h`, `-H` and `-p`; connections are handed over or
--- pumped, with the descriptors that this takes; and what passes goes through the line wrappers of `-w`, each way in its
--- order, and is recorded where `-w` begins with `recordio`
+-- what a server does for all connections: the limits of `-c`, `-k` and `-m`; names by `-N`, `-l`, `-h`, `-H` and `-p`;
+-- connections are handed over or pumped, with the descriptors and threads that this takes; and what passes goes through
+-- the line wrappers of `-w`, each way in its order, and is recorded where `-w` begins with `recordio`
 pub record IsAskedService (words : ServerPlan) (service : Service) : Type 0 where
   pub limits : service.limits ≡ words.limits
   pub names : AreNamesOf words service.names

@@ -18,7 +18,7 @@ use std::sync::Mutex;
 use std::sync::ledger::Blank;
 use std::thread::Threads;
 use std::time::Clock;
-use tcp_connections::{Acceptor, Errors, ServeEnd, Workers};
+use tcp_connections::{Accepted, Acceptor, Errors, ServeEnd, Workers};
 use tcp_service::{AgentContext, Entrance, Host, Seen, Server, Service};
 
 /// So many callers of a site make the events of a server: one lets connections in, and the other makes the rest.
@@ -93,7 +93,7 @@ where
     H::Job: Send,
     H::Input: Send,
     H::Output: Send,
-    A: Acceptor<Holder = H::Holder> + Send + Sync + Drop,
+    A: Acceptor<Came = Option<Accepted<H::Holder>>> + Send + Sync + Drop,
     requires parts { (parts.name ≡ H.Callers.name) × (parts.parts ≡ H.Callers.parts) × (parts.parts ≡ CALLERS)
         × (H.Callers.all ≡ CALLERS) }
     requires before { H.Callers.before ≡ (yard_books yard).count }

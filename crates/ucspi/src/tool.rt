@@ -196,12 +196,7 @@ fn open_and_run<'a, P: System + Send + Sync>(
 ) -> Result<Finished, ServerFailure>
     requires asked { AreAsked words.now server.now.plan server.now.service }
 {
-    let alloc = rt.alloc();
-    let rules = find_rules(alloc, rt, words)?;
-    let name = match &rules {
-        Some((name, _)) => Some(name.copy(alloc)?),
-        None => None,
-    };
+    let (rules, name) = rules_and_name(rt.alloc(), rt, words)?;
     let acceptor = open_socket::<P>(rt, &server.log, words)?;
     let starter = ProgramStarter::new(rt, words.mode(), &server.search, &server.service.reserve);
     let (places, parts) = (Blank::new(words.limits().connections), Blank::new(CALLERS));
@@ -209,6 +204,24 @@ fn open_and_run<'a, P: System + Send + Sync>(
     run_site::<Brand, Brand, P>(
         rt, server, acceptor, rules, name, &starter, words, places, parts,
     )
+}
+
+// The name of the rules file with what is done if it is missing, and the name once more: the yard takes one, and
+// connections look at the other.
+fn rules_and_name<R: Files>(
+    alloc: Global,
+    files: &R,
+    words: &ServerWords<'_>,
+) -> Result<(Option<(Name, WhenMissing)>, Option<Name>), ServerFailure>
+    ensures asked { IfOk result (λ found. AreRulesOf words.now found.0) }
+    ensures named { IfOk result (λ found. found.1 ≡ name_of (rules_of found.0)) }
+{
+    let rules = find_rules(alloc, files, words)?;
+    let name = match &rules {
+        Some((name, _)) => Some(name.copy(alloc)?),
+        None => None,
+    };
+    Ok((rules, name))
 }
 
 // The connections of a socket that listens where the words say, which a person is told. Its port is printed where the
@@ -233,8 +246,21 @@ fn open_socket<'a, P: System>(
     Ok(SocketAcceptor::new(rt, rt.alloc(), mode, listener, at_once))
 }
 
-// The server over a yard of its own, which serves by what was made of the words. A person is told before, where rules
-// are by names that clients don't have.
+// Tells a person where rules are by names that clients don't have.
+fn tell_names<R: Files<File = File> + Wait, E: Write + Drop>(
+    rt: &R,
+    alloc: Global,
+    log: &Mutex<Log<E>>,
+    rules: &RulesPath<'_, R>,
+    words: &ServerWords<'_>,
+) {
+    let has_names = words.hosts().is_some() && words.names_remote();
+    if !has_names && words.level() == Level::All && rules.name_someone(alloc) {
+        let _ = log.lock(rt).no_names();
+    }
+}
+
+// The server over a yard of its own, which serves by what was made of the words.
 fn run_site<'a, L: Assumptions + Send + Sync, N: Callers + Send + Sync, P: System + Send + Sync>(
     rt: &'a P::Runtime,
     server: &'a ServerParts<'_, P::Errors>,
@@ -259,10 +285,7 @@ fn run_site<'a, L: Assumptions + Send + Sync, N: Callers + Send + Sync, P: Syste
 {
     let alloc = rt.alloc();
     let at = RulesPath::by_words(rt, words, name);
-    let has_names = words.hosts().is_some() && words.names_remote();
-    if !has_names && words.level() == Level::All && at.name_someone(alloc) {
-        let _ = server.log.lock(rt).no_names();
-    }
+    tell_names(rt, alloc, &server.log, &at, words);
     let yard = yard_of::<L>(alloc, rules, words, places)?;
     let rules = FolderRules::<L, P::Runtime> {
         at,
