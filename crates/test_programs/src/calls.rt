@@ -1,24 +1,19 @@
-//! Calls of a site that have to succeed. The receipt of each is kept. Where one does not succeed, the whole run is
-//! wrong, and a place that is held then is stranded.
-ghost use Rattle.std.specs.Prelude.{◌≡◌, ℕ, IfOk};
-ghost use Rattle.shared_site.specs.Receipts.{made_event};
-ghost use Rattle.server_events.specs.declared.event.Event.TheVariants.{Admitted};
+//! Calls of a site that have to succeed. A caller keeps the receipt of each. Where one does not succeed, that is noted:
+//! the whole run is wrong then, and a place that is held may be stranded.
+ghost use Rattle.std.specs.Prelude.{◌≡◌, false, IfSome};
 ghost use Rattle.server_yard.specs.Passes.{IsDecidedBy};
 
 use crate::children::{Idle, end_child, start_child};
-use crate::sites::InMemory;
+use crate::receipts::Receipts;
 use child_jobs::{DropCause, Place};
-use dir_calls::{Name, Phase, RulesFile};
-use memory_dirs::MemFile;
-use rule_lines::Limits;
-use rule_lookup::{DecideFault, Decision, Peer, Verdict, decide};
-use rules_install::whole::prepare;
-use rules_install::{FileNames, Install};
+use dir_calls::RulesFile;
+use rule_lookup::{Decision, Peer, Verdict, decide};
+use rules_install::Install;
 use server_events::Event;
 use server_yard::{AdmitFault, Assumptions, Leaving, Pass};
 use shared_site::site::{Admit, Decided, Left, Started};
-use shared_site::{Caller, Callers, Made, OutOfTurn, Receipt, Site, Turn};
-use std::alloc::{AllocError, AllocFailed, Global};
+use shared_site::{Caller, Callers, Ground, Site};
+use std::alloc::Global;
 use std::sync::Wait;
 use std::thread;
 use std::time::{Clock, Duration};
@@ -27,60 +22,170 @@ use whole_yard::{InstallBegin, InstallStep, Open};
 /// More steps than an installation of a short text takes.
 const STEPS: u64 = 64;
 
-/// That a run is not as it has to be.
-#[derive(Clone, Copy)]
-pub(crate) struct Wrong;
-
-impl From<AllocError> for Wrong {
-    fn from(_error: AllocError) -> Wrong {
-        Wrong
-    }
+/// A caller at work, with the receipts of its events.
+#[derive(Drop)]
+pub(crate) struct Worker<N: Callers> {
+    pub(crate) caller: Caller<N>,
+    pub(crate) receipts: Receipts,
 }
 
-impl<T: Drop> From<AllocFailed<T>> for Wrong {
-    fn from(failed: AllocFailed<T>) -> Wrong {
-        drop(failed);
-        Wrong
-    }
+/// A site that installs rules, and what calls of it need beside.
+#[derive(Drop)]
+pub(crate) struct At<'a, G: Ground, R> {
+    pub(crate) rt: &'a R,
+    pub(crate) alloc: Global,
+    pub(crate) site: &'a Site<G>,
+    pub(crate) ghost installs: { G.is_servers ≡ false },
 }
 
-/// What a call gives, or that the run is wrong.
-pub(crate) type OrWrong<T> = Result<T, Wrong>;
-
-/// Keeps the receipt of an event, which has to be made.
-fn keep_made(
-    receipts: &mut Vec<Receipt>,
-    answer: Result<Made, OutOfTurn>,
-    event: Event,
-) -> OrWrong<()>
-    requires { IfOk answer (λ made. made_event made ≡ event) }
-{
-    match answer {
-        Ok(made) => Ok(receipts.push(made.receipt(event))?),
-        Err(_) => Err(Wrong),
+impl<G: Ground, R: Wait + Clock> At<'_, G, R> {
+    /// Serves a connection from its admission to its end.
+    pub(crate) fn serve(&self, worker: &mut Worker<G::Callers>, peer: &Peer) {
+        let Some((serial, place)) = self.let_in(worker, peer) else {
+            return worker.receipts.fail();
+        };
+        match self.decided(worker, serial, peer) {
+            Some(Verdict::Allow) => self.run_child(worker, serial, place),
+            Some(Verdict::Deny) => {
+                self.leave(worker, serial, place, Leaving::Dropped(DropCause::Denied));
+            }
+            None => place.strand(),
+        }
     }
-}
 
-/// Makes a caller's turn, whose event has to be made, and keeps its receipt.
-fn make<
-    L: Assumptions,
-    N: Callers,
-    R: Wait,
-    T: Turn<InMemory<L, N>, Answer = Result<Made, OutOfTurn>>,
->(
-    rt: &R,
-    site: &Site<InMemory<L, N>>,
-    caller: &mut Caller<N>,
-    turn: T,
-    event: Event,
-    receipts: &mut Vec<Receipt>,
-) -> OrWrong<()>
-    requires may { T.may turn }
-    requires makes { (who before : ℕ) (answer : _) (after : ℕ) → T.answers turn who before answer after
-        → IfOk answer (λ made. made_event made ≡ event) }
-{
-    let answer = site.turn(rt, caller, turn);
-    keep_made(receipts, answer, event)
+    /// Lets a connection in once there is room for it.
+    fn let_in(
+        &self,
+        worker: &mut Worker<G::Callers>,
+        peer: &Peer,
+    ) -> Option<(u64, Place<G::Places>)> {
+        for _ in self.rt.forever() {
+            match self.site.turn(self.rt, &mut worker.caller, Admit { peer }) {
+                Ok((serial, place, made)) => {
+                    worker.receipts.keep_admitted(made, serial, peer);
+                    return Some((serial, place));
+                }
+                Err(refusal) => {
+                    if !matches!(refusal.fault(), AdmitFault::Full)
+                        || self.site.retired(self.rt).is_some()
+                    {
+                        return None;
+                    }
+                    thread::sleep(self.rt, Duration::from_millis(1));
+                }
+            }
+        }
+        unreachable!()
+    }
+
+    /// Opens the rules for a connection, and answers how they decide it.
+    fn decided(
+        &self,
+        worker: &mut Worker<G::Callers>,
+        serial: u64,
+        peer: &Peer,
+    ) -> Option<Verdict> {
+        let open = Open {
+            alloc: self.alloc,
+            serial,
+        };
+        match self.site.turn(self.rt, &mut worker.caller, open) {
+            Ok((pass, made)) => {
+                let there = pass.source().is_some();
+                worker.receipts.keep(made, Event::Opened { serial, there });
+                self.decided_by(worker, pass, peer)
+            }
+            Err(_) => {
+                worker.receipts.fail();
+                None
+            }
+        }
+    }
+
+    /// Decides a connection by its pass.
+    fn decided_by(
+        &self,
+        worker: &mut Worker<G::Callers>,
+        pass: Pass<G::Places, G::File>,
+        peer: &Peer,
+    ) -> Option<Verdict> {
+        let serial = pass.serial();
+        let Some(decision) = decide_by(self.alloc, &pass, peer) else {
+            worker.receipts.fail();
+            return None;
+        };
+        let verdict = decision.verdict;
+        let kept = decision.copy(self.alloc);
+        let turn = Decided::<G> {
+            pass,
+            peer,
+            decision,
+        };
+        let answer = self.site.turn(self.rt, &mut worker.caller, turn);
+        worker.receipts.keep_decided(answer, serial, kept);
+        Some(verdict)
+    }
+
+    /// Runs a child of a connection that was allowed, from its start to its end.
+    fn run_child(&self, worker: &mut Worker<G::Callers>, serial: u64, place: Place<G::Places>) {
+        let Some(running) = start_child(self.alloc, place) else {
+            return worker.receipts.fail();
+        };
+        let started = Started::<G, Idle> {
+            serial,
+            running: &running,
+        };
+        let answer = self.site.turn(self.rt, &mut worker.caller, started);
+        worker.receipts.keep_made(answer, Event::Started { serial });
+        match end_child(running) {
+            Some((place, status)) => self.leave(worker, serial, place, Leaving::Ended(status)),
+            None => worker.receipts.fail(),
+        }
+    }
+
+    /// Notes that a connection has gone so.
+    fn leave(
+        &self,
+        worker: &mut Worker<G::Callers>,
+        serial: u64,
+        place: Place<G::Places>,
+        leaving: Leaving,
+    ) {
+        let left = Left::<G> {
+            serial,
+            place,
+            leaving,
+        };
+        let answer = self.site.turn(self.rt, &mut worker.caller, left);
+        worker.receipts.keep_made(answer, leaving.event(serial));
+    }
+
+    /// Steps an installation until it is done, or another one has taken its place.
+    pub(crate) fn install(&self, worker: &mut Worker<G::Callers>, install: Install) {
+        let begin = InstallBegin {
+            alloc: self.alloc,
+            install,
+        };
+        let (begun, made) = self.site.turn(self.rt, &mut worker.caller, begin);
+        if let Some(number) = worker.receipts.keep_begun(begun, made) {
+            self.install_on(worker, number);
+        }
+    }
+
+    /// Makes the steps of an installation that has begun.
+    fn install_on(&self, worker: &mut Worker<G::Callers>, number: u64) {
+        for _ in 0..STEPS {
+            let step = InstallStep {
+                alloc: self.alloc,
+                number,
+            };
+            let (stepped, made) = self.site.turn(self.rt, &mut worker.caller, step);
+            if !worker.receipts.keep_stepped(stepped, made) {
+                return;
+            }
+        }
+        worker.receipts.fail();
+    }
 }
 
 /// The decision for a peer by the file that a pass has.
@@ -88,209 +193,8 @@ fn decide_by<L: Assumptions, F: RulesFile + Drop>(
     alloc: Global,
     pass: &Pass<L, F>,
     peer: &Peer,
-) -> Result<Decision, DecideFault>
-    ensures { IfOk result (IsDecidedBy F.honest F.sound F.bytes pass.now peer.now) }
+) -> Option<Decision>
+    ensures { IfSome result (IsDecidedBy F.honest F.sound F.bytes pass.now peer.now) }
 {
-    decide(alloc, pass.source(), pass.missing(), peer)
-}
-
-/// Lets a connection in once there is room for it.
-pub(crate) fn let_in<L: Assumptions, N: Callers, R: Wait + Clock>(
-    rt: &R,
-    site: &Site<InMemory<L, N>>,
-    caller: &mut Caller<N>,
-    peer: &Peer,
-    receipts: &mut Vec<Receipt>,
-) -> OrWrong<(u64, Place<L>)> {
-    for _ in rt.forever() {
-        if site.retired(rt).is_some() {
-            return Err(Wrong);
-        }
-        match site.turn(rt, caller, Admit { peer }) {
-            Ok((serial, place, made)) => {
-                return match keep_admitted(receipts, made, serial, peer) {
-                    Ok(()) => Ok((serial, place)),
-                    Err(error) => {
-                        place.strand();
-                        Err(error)
-                    }
-                };
-            }
-            Err(refusal) => {
-                if !matches!(refusal.fault(), AdmitFault::Full) {
-                    return Err(Wrong);
-                }
-                thread::sleep(rt, Duration::from_millis(1));
-            }
-        }
-    }
-    unreachable!()
-}
-
-/// Keeps the receipt of an admission.
-fn keep_admitted(receipts: &mut Vec<Receipt>, made: Made, serial: u64, peer: &Peer) -> OrWrong<()>
-    requires { made_event made ≡ Admitted serial peer.now }
-{
-    let peer = peer.copy()?;
-    Ok(receipts.push(made.receipt(Event::Admitted { serial, peer }))?)
-}
-
-/// Opens the rules for a connection, and answers how they decide it.
-pub(crate) fn decided<L: Assumptions, N: Callers, R: Wait>(
-    rt: &R,
-    alloc: Global,
-    site: &Site<InMemory<L, N>>,
-    caller: &mut Caller<N>,
-    serial: u64,
-    peer: &Peer,
-    receipts: &mut Vec<Receipt>,
-) -> OrWrong<Verdict> {
-    match site.turn(rt, caller, Open { alloc, serial }) {
-        Ok((pass, made)) => {
-            let there = pass.source().is_some();
-            receipts.push(made.receipt(Event::Opened { serial, there }))?;
-            decided_by(rt, alloc, site, caller, pass, peer, receipts)
-        }
-        Err(_) => Err(Wrong),
-    }
-}
-
-/// Decides a connection by its pass.
-fn decided_by<L: Assumptions, N: Callers, R: Wait>(
-    rt: &R,
-    alloc: Global,
-    site: &Site<InMemory<L, N>>,
-    caller: &mut Caller<N>,
-    pass: Pass<L, MemFile>,
-    peer: &Peer,
-    receipts: &mut Vec<Receipt>,
-) -> OrWrong<Verdict> {
-    let Ok(decision) = decide_by(alloc, &pass, peer) else {
-        return Err(Wrong);
-    };
-    let verdict = decision.verdict;
-    let told = decision.copy(alloc)?;
-    let event = Event::Decided {
-        serial: pass.serial(),
-        decision: told,
-    };
-    let turn = Decided::<InMemory<L, N>> {
-        pass,
-        peer,
-        decision,
-    };
-    make(rt, site, caller, turn, event, receipts)?;
-    Ok(verdict)
-}
-
-/// Runs a child of a connection that was allowed, from its start to its end.
-pub(crate) fn run_child<L: Assumptions, N: Callers, R: Wait>(
-    rt: &R,
-    alloc: Global,
-    site: &Site<InMemory<L, N>>,
-    caller: &mut Caller<N>,
-    (serial, place): (u64, Place<L>),
-    receipts: &mut Vec<Receipt>,
-) -> OrWrong<()> {
-    let running = start_child(alloc, place)?;
-    let started = Started::<InMemory<L, N>, Idle> {
-        serial,
-        running: &running,
-    };
-    let event = Event::Started { serial };
-    if let Err(error) = make(rt, site, caller, started, event, receipts) {
-        running.strand();
-        return Err(error);
-    }
-    let (place, status) = end_child(running)?;
-    let ended = Left::<InMemory<L, N>> {
-        serial,
-        place,
-        leaving: Leaving::Ended(status),
-    };
-    let event = Event::Ended { serial, status };
-    make(rt, site, caller, ended, event, receipts)
-}
-
-/// Gives a connection up.
-pub(crate) fn drop_one<L: Assumptions, N: Callers, R: Wait>(
-    rt: &R,
-    site: &Site<InMemory<L, N>>,
-    caller: &mut Caller<N>,
-    (serial, place): (u64, Place<L>),
-    cause: DropCause,
-    receipts: &mut Vec<Receipt>,
-) -> OrWrong<()> {
-    let turn = Left::<InMemory<L, N>> {
-        serial,
-        place,
-        leaving: Leaving::Dropped(cause),
-    };
-    let event = Event::Dropped { serial, cause };
-    make(rt, site, caller, turn, event, receipts)
-}
-
-/// A peer for a caller: 1.1.1.1 for the first one, and so on.
-pub(crate) fn peer_for<N: Callers>(alloc: Global, caller: &Caller<N>) -> OrWrong<Peer> {
-    let Ok(n) = u8::try_from(caller.number()) else {
-        return Err(Wrong);
-    };
-    match Peer::new(alloc, [n, n, n, n], 4000, None, None) {
-        Ok(peer) => Ok(peer),
-        Err(_) => Err(Wrong),
-    }
-}
-
-/// A name of a file.
-pub(crate) fn file_name(alloc: Global, bytes: &[u8]) -> OrWrong<Name> {
-    match Name::new(alloc, bytes) {
-        Ok(name) => Ok(name),
-        Err(_) => Err(Wrong),
-    }
-}
-
-/// An installation of a text as `rules`, before its first step.
-pub(crate) fn installation(alloc: Global, text: &[u8]) -> OrWrong<Install> {
-    let Ok(names) = FileNames::new(file_name(alloc, b"rules")?, file_name(alloc, b"tmp")?) else {
-        return Err(Wrong);
-    };
-    match prepare(alloc, names, &Limits::profile(), text) {
-        Ok(install) => Ok(install),
-        Err(_) => Err(Wrong),
-    }
-}
-
-/// Steps an installation until it is done, or another one has taken its place.
-pub(crate) fn install<L: Assumptions, N: Callers, R: Wait>(
-    rt: &R,
-    alloc: Global,
-    site: &Site<InMemory<L, N>>,
-    caller: &mut Caller<N>,
-    install: Install,
-    receipts: &mut Vec<Receipt>,
-) -> OrWrong<()> {
-    let begin = InstallBegin { alloc, install };
-    let (begun, made) = site.turn(rt, caller, begin);
-    let Ok(number) = begun else {
-        return Err(Wrong);
-    };
-    let Some(made) = made else {
-        return Err(Wrong);
-    };
-    let phase = Phase::Fresh;
-    receipts.push(made.receipt(Event::Stepped { phase }))?;
-    for _ in 0..STEPS {
-        let (stepped, made) = site.turn(rt, caller, InstallStep { alloc, number });
-        let Ok(phase) = stepped else {
-            return Ok(());
-        };
-        let Some(made) = made else {
-            return Err(Wrong);
-        };
-        receipts.push(made.receipt(Event::Stepped { phase }))?;
-        if phase == Phase::Done {
-            return Ok(());
-        }
-    }
-    Err(Wrong)
+    decide(alloc, pass.source(), pass.missing(), peer).ok()
 }

@@ -1,9 +1,8 @@
 //! Children that do nothing, and end by themselves.
-ghost use Rattle.std.specs.Prelude.{◌≡◌, false, ⊤, IfOk, true};
+ghost use Rattle.std.specs.Prelude.{◌≡◌, false, ⊤, IfSome, true};
 ghost use Rattle.child_jobs.specs.declared.outcome.Status.TheVariants.{Code};
 ghost use Rattle.child_jobs.specs.Runs.{place_of};
 
-use crate::calls::{OrWrong, Wrong};
 use child_jobs::{
     Environment, Exit, Job, Launcher, NoEnds, NotStarted, Place, Program, Running, Status,
     WaitFault, finish, start,
@@ -88,26 +87,26 @@ impl Launcher for Starts {
 pub(crate) fn start_child<L: Assumptions>(
     alloc: Global,
     place: Place<L>,
-) -> OrWrong<Running<L, Idle>>
-    ensures { IfOk result (λ running. place_of running ≡ place) }
+) -> Option<Running<L, Idle>>
+    ensures { IfSome result (λ running. place_of running ≡ place) }
 {
     let program = Program::new(String::new(alloc), Vec::new(alloc));
     match start(alloc, place, Starts, &program, &Environment::new(alloc)) {
-        Ok(running) => Ok(running),
+        Ok(running) => Some(running),
         Err((place, _)) => {
             place.strand();
-            Err(Wrong)
+            None
         }
     }
 }
 
 /// Waits until such a child has ended.
-pub(crate) fn end_child<L: Assumptions>(running: Running<L, Idle>) -> OrWrong<(Place<L>, Status)> {
+pub(crate) fn end_child<L: Assumptions>(running: Running<L, Idle>) -> Option<(Place<L>, Status)> {
     match finish(running) {
-        Ok((place, exit)) => Ok((place, exit.status)),
+        Ok((place, exit)) => Some((place, exit.status)),
         Err((running, _)) => {
             running.strand();
-            Err(Wrong)
+            None
         }
     }
 }

@@ -2,17 +2,18 @@
 ghost use Rattle.std.specs.Prelude.{◌≡◌, false};
 ghost use Rattle.shared_site.specs.Callers.{new_count};
 
-use crate::calls::{
-    OrWrong, Wrong, decided, drop_one, file_name, install, installation, let_in, peer_for,
-    run_child,
-};
+use crate::calls::{At, Worker};
+use crate::receipts::Receipts;
 use crate::sites::{InMemory, close, new_site};
-use child_jobs::DropCause;
+use dir_calls::Name;
 use memory_dirs::MemDir;
-use rule_lookup::{Verdict, WhenMissing};
-use server_events::{Event, Report, replay};
-use server_yard::{Assumptions, Yard};
-use shared_site::{BackCallers, Caller, Callers, NewCallers, Receipt, Site};
+use rule_lines::Limits;
+use rule_lookup::{Peer, WhenMissing};
+use rules_install::whole::prepare;
+use rules_install::{FileNames, Install};
+use server_events::Report;
+use server_yard::Assumptions;
+use shared_site::{BackCallers, Caller, Callers, Ground, NewCallers};
 use std::alloc::{AllocError, Global};
 use std::marker::Brand;
 use std::sync::Wait;
@@ -31,195 +32,180 @@ const CONNECTIONS: u64 = 1_250;
 /// After how many of its connections a caller installs rules.
 const BETWEEN: u64 = 100;
 
-/// What a caller leaves when its thread ends, and whether all its calls succeeded.
-#[derive(Drop)]
-struct Left<N: Callers> {
-    caller: Caller<N>,
-    receipts: Vec<Receipt>,
-    is_served: bool,
+/// What callers do in threads of their own.
+trait Work<C, W> {
+    /// The whole work of a caller.
+    fn work(&self, caller: C) -> W;
 }
 
-// Serves a connection from its admission to its end.
-fn serve<L: Assumptions, N: Callers, R: Wait + Clock>(
-    rt: &R,
-    alloc: Global,
-    site: &Site<InMemory<L, N>>,
-    caller: &mut Caller<N>,
-    receipts: &mut Vec<Receipt>,
-) -> OrWrong<()> {
-    let peer = peer_for(alloc, caller)?;
-    let (serial, place) = let_in(rt, site, caller, &peer, receipts)?;
-    match decided(rt, alloc, site, caller, serial, &peer, receipts) {
-        Ok(Verdict::Allow) => run_child(rt, alloc, site, caller, (serial, place), receipts),
-        Ok(Verdict::Deny) => {
-            let cause = DropCause::Denied;
-            drop_one(rt, site, caller, (serial, place), cause, receipts)
+impl<G: Ground, R: Wait + Clock> Work<Caller<G::Callers>, Worker<G::Callers>> for At<'_, G, R> {
+    fn work(&self, caller: Caller<G::Callers>) -> Worker<G::Callers> {
+        let peer = peer_for(self.alloc, caller.number());
+        let mut worker = Worker {
+            caller,
+            receipts: Receipts::new(self.alloc),
+        };
+        match peer {
+            Some(peer) => serve_all(self, &mut worker, &peer),
+            None => worker.receipts.fail(),
         }
-        Err(error) => {
-            place.strand();
-            Err(error)
-        }
+        worker
     }
 }
 
-// Makes all connections and installations of a caller.
-fn serve_all<L: Assumptions, N: Callers, R: Wait + Clock>(
-    rt: &R,
-    alloc: Global,
-    site: &Site<InMemory<L, N>>,
-    caller: &mut Caller<N>,
-    receipts: &mut Vec<Receipt>,
-) -> OrWrong<()> {
+// Makes all connections and installations of a caller, up to a call that does not succeed.
+fn serve_all<G: Ground, R: Wait + Clock>(
+    at: &At<'_, G, R>,
+    worker: &mut Worker<G::Callers>,
+    peer: &Peer,
+) {
     for k in 0..CONNECTIONS {
         if k % BETWEEN == 0 {
-            let text: &[u8] = if k % (2 * BETWEEN) == 0 {
-                b":allow\n"
-            } else {
-                b":deny\n"
-            };
-            install(
-                rt,
-                alloc,
-                site,
-                caller,
-                installation(alloc, text)?,
-                receipts,
-            )?;
+            match installation(at.alloc, k % (2 * BETWEEN) == 0) {
+                Some(install) => at.install(worker, install),
+                None => worker.receipts.fail(),
+            }
         }
-        serve(rt, alloc, site, caller, receipts)?;
-    }
-    Ok(())
-}
-
-// The whole work of a caller.
-fn work<L: Assumptions, N: Callers, R: Wait + Clock>(
-    rt: &R,
-    alloc: Global,
-    site: &Site<InMemory<L, N>>,
-    mut caller: Caller<N>,
-) -> Left<N> {
-    let mut receipts = Vec::new(alloc);
-    let is_served = serve_all(rt, alloc, site, &mut caller, &mut receipts).is_ok();
-    Left {
-        caller,
-        receipts,
-        is_served,
+        if worker.receipts.has_failed {
+            return;
+        }
+        at.serve(worker, peer);
     }
 }
 
-// Runs eight callers in threads until all have ended.
-fn run_all<
-    L: Assumptions + Send + Sync,
-    N: Callers + Send + Sync,
-    R: Threads + Wait + Clock + Sync,
->(
-    rt: &R,
-    alloc: Global,
-    site: &Site<InMemory<L, N>>,
-    callers: Vec<Caller<N>>,
-) -> Result<Vec<Left<N>>, AllocError> {
-    thread::map_vec(rt, callers, &|caller| work(rt, alloc, site, caller))
+// A peer for the caller with this number: 1.1.1.1 for the first one, and so on.
+fn peer_for(alloc: Global, number: u64) -> Option<Peer> {
+    let n = u8::try_from(number).ok()?;
+    Peer::new(alloc, [n, n, n, n], 4000, None, None).ok()
 }
 
-// Takes eight callers, and answers with those that are left.
+// An installation of a text as `rules`, before its first step. The text allows all clients, or denies all.
+fn installation(alloc: Global, allows: bool) -> Option<Install> {
+    let text: &[u8] = if allows { b":allow\n" } else { b":deny\n" };
+    let (rules, scratch) = (name(alloc, b"rules")?, name(alloc, b"tmp")?);
+    let names = FileNames::new(rules, scratch).ok()?;
+    prepare(alloc, names, &Limits::profile(), text).ok()
+}
+
+// A name of a file.
+fn name(alloc: Global, bytes: &[u8]) -> Option<Name> {
+    Name::new(alloc, bytes).ok()
+}
+
+// Takes eight callers.
 fn take_eight<N: Callers>(
     alloc: Global,
-    new: NewCallers<N>,
-) -> Result<(Vec<Caller<N>>, NewCallers<N>), AllocError>
-    requires eight { new_count new ≡ CALLERS }
+    new: &mut NewCallers<N>,
+) -> Result<Vec<Caller<N>>, AllocError>
+    requires eight { new_count new.old ≡ CALLERS }
 {
-    let mut new = new;
     let mut callers = Vec::new(alloc);
     for _ in 0..CALLERS {
         callers.push(new.take())?;
     }
-    Ok((callers, new))
+    Ok(callers)
 }
 
-// Gathers the callers, and all their receipts.
+// Runs eight callers in threads until all have ended.
+fn run_eight<N: Callers + Send, W: Work<Caller<N>, Worker<N>> + Sync, R: Threads + Sync>(
+    rt: &R,
+    alloc: Global,
+    work: &W,
+    new: &mut NewCallers<N>,
+) -> Result<Vec<Worker<N>>, AllocError>
+    requires eight { new_count new.old ≡ CALLERS }
+{
+    let callers = take_eight(alloc, new)?;
+    thread::map_vec(rt, callers, &|caller| work.work(caller))
+}
+
+// Gathers the callers that are back from their threads, and all their receipts.
 fn gather<N: Callers>(
     alloc: Global,
     new: NewCallers<N>,
-    all: Vec<Left<N>>,
-) -> OrWrong<(BackCallers<N>, Vec<Receipt>)>
+    workers: Result<Vec<Worker<N>>, AllocError>,
+) -> (BackCallers<N>, Receipts)
     requires parts { N.all ≡ N.parts }
 {
     let mut back = new.into_back();
-    let mut receipts = Vec::new(alloc);
-    for Left {
-        caller,
-        receipts: mut more,
-        is_served,
-    } in all {
-        if !is_served {
-            return Err(Wrong);
+    let mut receipts = Receipts::new(alloc);
+    match workers {
+        Ok(workers) => {
+            for worker in workers {
+                back.add(worker.caller);
+                receipts.append(worker.receipts);
+            }
         }
-        back.add(caller);
-        receipts.append(&mut more)?;
+        Err(_) => receipts.fail(),
     }
-    Ok((back, receipts))
+    (back, receipts)
 }
 
-// The events of receipts, ordered by their places.
-fn in_order(alloc: Global, mut receipts: Vec<Receipt>) -> Result<Vec<Event>, AllocError> {
-    receipts.sort_unstable_by_key(|receipt| receipt.at);
-    let mut events = Vec::new(alloc);
-    for receipt in receipts {
-        events.push(receipt.event)?;
-    }
-    Ok(events)
-}
-
-// What a yard reports, which has to be what its history comes to.
-fn report_of<L: Assumptions>(
+// Has eight callers do their work. It answers with those that are back then, and all receipts.
+fn run_all<N: Callers + Send, W: Work<Caller<N>, Worker<N>> + Sync, R: Threads + Sync>(
+    rt: &R,
     alloc: Global,
-    yard: &Yard<L, MemDir>,
-    receipts: Vec<Receipt>,
-) -> OrWrong<Report> {
-    let report = yard.journal().report();
-    let history = in_order(alloc, receipts)?;
-    if replay(alloc, LIMIT, LIMIT, &history).ok() == Some(report) {
-        Ok(report)
-    } else {
-        Err(Wrong)
-    }
+    work: &W,
+    mut new: NewCallers<N>,
+) -> (BackCallers<N>, Receipts)
+    requires eight { new_count new ≡ CALLERS }
+    requires parts { N.all ≡ N.parts }
+{
+    let workers = run_eight(rt, alloc, work, &mut new);
+    gather(alloc, new, workers)
 }
 
+// Runs eight callers of one site over a directory.
+fn eight_on<G: Ground + Send + Sync, R: Threads + Wait + Clock + Sync>(
+    rt: &R,
+    alloc: Global,
+    places: Blank,
+    parts: Blank,
+    dir: G::Folder,
+    rules: Option<(Name, WhenMissing)>,
+) -> Option<Report>
+where
+    G::Places: Send + Sync,
+    G::Callers: Send + Sync,
+    G::File: Send,
+    G::Folder: Send,
+    requires installs { G.is_servers ≡ false }
+    requires places { (places.name ≡ G.Places.name) × (places.parts ≡ G.Places.parts) × (places.parts ≡ LIMIT) }
+    requires met { G.Places.met ≡ false }
+    requires parts { (parts.name ≡ G.Callers.name) × (parts.parts ≡ G.Callers.parts) × (parts.parts ≡ CALLERS) }
+    requires callers { (G.Callers.all ≡ CALLERS) × (G.Callers.before ≡ 0) }
+{
+    let (site, new) = new_site::<G>(alloc, places, parts, dir, rules, LIMIT, CALLERS)?;
+    let at = At {
+        rt,
+        alloc,
+        site: &site,
+    };
+    let (callers, receipts) = run_all(rt, alloc, &at, new);
+    close(alloc, site, callers, receipts, LIMIT)
+}
+
+// Runs eight callers of one site over a directory in memory.
 fn eight<
     L: Assumptions + Send + Sync,
     N: Callers + Send + Sync,
     R: Threads + Wait + Clock + Sync + AllocGlobal,
->(rt: &R, places: Blank, parts: Blank) -> OrWrong<Report>
+>(rt: &R, places: Blank, parts: Blank) -> Option<Report>
     requires places { (places.name ≡ L.name) × (places.parts ≡ L.parts) × (places.parts ≡ LIMIT) }
     requires met { L.met ≡ false }
     requires parts { (parts.name ≡ N.name) × (parts.parts ≡ N.parts) × (parts.parts ≡ CALLERS) }
     requires callers { (N.all ≡ CALLERS) × (N.before ≡ 0) }
 {
     let alloc = rt.alloc();
-    let rules = Some((file_name(alloc, b"rules")?, WhenMissing::Deny));
-    let (site, new) = new_site::<L, N>(
-        alloc,
-        places,
-        parts,
-        MemDir::new(alloc),
-        rules,
-        LIMIT,
-        CALLERS,
-    )?;
-    let (callers, new) = take_eight(alloc, new)?;
-    let all = run_all(rt, alloc, &site, callers)?;
-    let (callers, receipts) = gather(alloc, new, all)?;
-    let yard = close(site, callers, &receipts)?;
-    report_of(alloc, &yard, receipts)
+    let rules = Some((name(alloc, b"rules")?, WhenMissing::Deny));
+    eight_on::<InMemory<L, N>, R>(rt, alloc, places, parts, MemDir::new(alloc), rules)
 }
 
-/// Runs eight callers of one site in threads of their own. It answers what the yard reports then.
-///
-/// # Errors
-/// A call did not succeed, the receipts of all callers are not the whole history, or the yard reports what its history
-/// does not come to.
+/// Runs eight callers of one site in threads of their own. It answers what the yard reports then: nothing if a call did
+/// not succeed, the receipts of all callers are not the whole history, or the yard reports what its history does not
+/// come to.
 pub(crate) fn eight_callers_in_threads<R: Threads + Wait + Clock + Sync + AllocGlobal>(
     rt: &R,
-) -> OrWrong<Report> {
+) -> Option<Report> {
     eight::<Brand, Brand, R>(rt, Blank::new(LIMIT), Blank::new(CALLERS))
 }

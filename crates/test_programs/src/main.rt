@@ -11,6 +11,7 @@ mod children;
 mod eight_threads;
 mod folder;
 mod mem_disk;
+mod receipts;
 mod sites;
 
 use answer::Answer;
@@ -35,50 +36,31 @@ fn last_part(path: &str) -> &str {
 /// Adds what the report of eight callers says, if their receipts are the whole history.
 fn run_sites<R: AllocGlobal + Threads + Wait + Clock + Sync>(rt: &R, out: &mut Answer) {
     match eight_callers_in_threads(rt) {
-        Ok(report) => {
+        Some(report) => {
             out.text("admitted ");
             out.show(&report.admitted);
             out.text(" live ");
             out.show_line(&report.live);
         }
-        Err(_) => out.fail(),
+        None => out.fail(),
     }
 }
 
-/// Runs the program with this name, with its words and its standard input.
-fn call<R: AllocGlobal + Files<File = File> + Threads + Wait + Clock + Sync>(
-    rt: &R,
-    name: &str,
-    words: &[String],
-    given: &[u8],
-    out: &mut Answer,
-) {
-    let word = match words.first() {
-        Some(word) => word.as_str(),
-        None => "",
-    };
-    match name {
-        "test_folders" => run_folder(rt, rt.alloc(), word, given, out),
-        "test_sites" => run_sites(rt, out),
-        _ => {}
-    }
-}
-
-/// Runs a program, and prints what it answers.
+/// Runs the program with this name, with its first word and its standard input, and prints what it answers.
 fn run<R: Input + Print + AllocGlobal + Files<File = File> + Threads + Wait + Clock + Sync>(
     rt: &R,
-    path: &str,
-    more: &mut env::Args,
+    name: &str,
+    word: &str,
 ) -> io::Result<()> {
     let alloc = rt.alloc();
-    let mut words = Vec::new(alloc);
     let mut given = Vec::new(alloc);
     let mut out = Answer::new(alloc);
-    for word in more {
-        words.push(word)?;
-    }
     rt.reader().read_to_end(&mut given)?;
-    call(rt, last_part(path), &words, &given, &mut out);
+    match name {
+        "test_folders" => run_folder(rt, alloc, word, &given, &mut out),
+        "test_sites" => run_sites(rt, &mut out),
+        _ => {}
+    }
     out.print(rt)
 }
 
@@ -89,7 +71,12 @@ fn main(rt: HostRuntime) -> ExitCode {
     let Some(path) = words.next() else {
         return ExitCode::SUCCESS;
     };
-    match run(&rt, path.as_str(), &mut words) {
+    let word = words.next();
+    let word = match &word {
+        Some(word) => word.as_str(),
+        None => "",
+    };
+    match run(&rt, last_part(path.as_str()), word) {
         Ok(()) => ExitCode::SUCCESS,
         Err(_) => ExitCode::FAILURE,
     }

@@ -1,20 +1,19 @@
 //! Sites over a directory in memory, from the start to the audit.
-ghost use Rattle.std.specs.Prelude.{◌≡◌, false, IfOk, IsTrue};
-ghost use Rattle.memory_dirs.specs.MemDir.{mem_state};
+ghost use Rattle.std.specs.Prelude.{◌≡◌, false, IfSome, IsTrue};
+ghost use Rattle.server_events.specs.JournalParts.{books_of_journal};
 ghost use Rattle.server_yard.specs.Kept.{rules_of};
-ghost use Rattle.server_yard.specs.Standing.{Begins};
-ghost use Rattle.server_yard.specs.Yards.{yard_books};
+ghost use Rattle.server_yard.specs.Standing.{BeginsWell};
 ghost use Rattle.shared_site.specs.Callers.{new_count};
 ghost use Rattle.whole_yard.specs.Closings.{IsWhole};
 
-use crate::calls::{OrWrong, Wrong};
+use crate::receipts::Receipts;
 use dir_calls::Name;
 use memory_dirs::{MemDir, MemFile};
 use rule_lookup::WhenMissing;
-use server_events::Journal;
+use server_events::{Event, Journal, Report, replay};
 use server_yard::{Assumptions, Yard};
 use shared_site::{BackCallers, Callers, Ground, NewCallers, Receipt, Site};
-use std::alloc::Global;
+use std::alloc::{AllocError, Global};
 use std::marker::PhantomData;
 use std::sync::ledger::Blank;
 use whole_yard::close_and_audit;
@@ -35,40 +34,60 @@ impl<L: Assumptions, N: Callers> Ground for InMemory<L, N> {
 }
 
 /// A site over a directory, and its callers.
-pub(crate) fn new_site<L: Assumptions, N: Callers>(
+pub(crate) fn new_site<G: Ground>(
     alloc: Global,
     places: Blank,
     parts: Blank,
-    dir: MemDir,
+    dir: G::Folder,
     rules: Option<(Name, WhenMissing)>,
     limit: u64,
     callers: u64,
-) -> OrWrong<(Site<InMemory<L, N>>, NewCallers<N>)>
-    requires places { (places.name ≡ L.name) × (places.parts ≡ L.parts) × (places.parts ≡ limit) }
-    requires begins { IsTrue L.met → Begins (mem_state dir) (rules_of rules) }
-    requires parts { (parts.name ≡ N.name) × (parts.parts ≡ N.parts) × (parts.parts ≡ callers) }
-    requires callers { (N.all ≡ callers) × (N.before ≡ 0) }
-    ensures callers { IfOk result (λ made. new_count made.1 ≡ callers) }
+) -> Option<(Site<G>, NewCallers<G::Callers>)>
+    requires places { (places.name ≡ G.Places.name) × (places.parts ≡ G.Places.parts) × (places.parts ≡ limit) }
+    requires begins { IsTrue G.Places.met → BeginsWell G.Folder.honest (G.Folder.state dir) (rules_of rules) }
+    requires parts { (parts.name ≡ G.Callers.name) × (parts.parts ≡ G.Callers.parts) × (parts.parts ≡ callers) }
+    requires callers { (G.Callers.all ≡ callers) × (G.Callers.before ≡ 0) }
+    ensures callers { IfSome result (λ made. new_count made.1 ≡ callers) }
 {
     let journal = Journal::storing(alloc);
-    let Ok(yard) = Yard::<L, MemDir>::new(alloc, places, dir, rules, limit, journal) else {
-        return Err(Wrong);
-    };
-    Ok(Site::<InMemory<L, N>>::new(parts, yard, callers))
+    let yard = Yard::new(alloc, places, dir, rules, limit, journal).ok()?;
+    Some(Site::new(parts, yard, callers))
 }
 
-/// The yard of a site whose callers are all back. Their receipts are its whole history.
-pub(crate) fn close<L: Assumptions, N: Callers>(
-    site: Site<InMemory<L, N>>,
-    callers: BackCallers<N>,
-    receipts: &[Receipt],
-) -> OrWrong<Yard<L, MemDir>>
-    requires { N.all ≡ N.parts }
-    ensures { IfOk result (λ yard. IsWhole (yard_books yard).notes receipts.now) }
+/// What the yard of a site reports once its callers are all back. Their receipts have to be its whole history, and that
+/// has to come to this report.
+pub(crate) fn close<G: Ground>(
+    alloc: Global,
+    site: Site<G>,
+    callers: BackCallers<G::Callers>,
+    receipts: Receipts,
+    limit: u64,
+) -> Option<Report>
+    requires { G.Callers.all ≡ G.Callers.parts }
 {
-    match close_and_audit(site, callers, receipts) {
-        Ok((yard, Ok(()))) => Ok(yard),
-        Ok((_, Err(_))) => Err(Wrong),
-        Err(_) => Err(Wrong),
+    match close_and_audit(site, callers, &receipts.list) {
+        Ok((yard, Ok(()))) => report_of(alloc, yard.journal(), receipts, limit),
+        _ => None,
     }
+}
+
+// What a journal reports, if that is what its history comes to. The receipts are the whole history, and are of calls
+// that have to have succeeded.
+fn report_of(alloc: Global, journal: &Journal, receipts: Receipts, limit: u64) -> Option<Report>
+    requires { IsWhole (books_of_journal journal.now).notes receipts.list.items }
+{
+    let report = journal.report();
+    let history = in_order(alloc, receipts.list).ok()?;
+    let comes_to = replay(alloc, limit, limit, &history).ok()?;
+    (!receipts.has_failed && comes_to == report).then_some(report)
+}
+
+// The events of receipts, ordered by their places.
+fn in_order(alloc: Global, mut receipts: Vec<Receipt>) -> Result<Vec<Event>, AllocError> {
+    receipts.sort_unstable_by_key(|receipt| receipt.at);
+    let mut events = Vec::new(alloc);
+    for receipt in receipts {
+        events.push(receipt.event)?;
+    }
+    Ok(events)
 }
