@@ -111,6 +111,7 @@ impl<G: Ground, R: Wait + Clock> At<'_, G, R> {
     ) -> Option<Verdict> {
         let serial = pass.serial();
         let Some(decision) = decide_by(self.alloc, &pass, peer) else {
+            drop(pass);
             worker.receipts.fail();
             return None;
         };

@@ -91,7 +91,11 @@ pub(crate) fn start_child<L: Assumptions>(
     ensures { IfSome result (λ running. place_of running ≡ place) }
 {
     let program = Program::new(String::new(alloc), Vec::new(alloc));
-    match start(alloc, place, Starts, &program, &Environment::new(alloc)) {
+    let environment = Environment::new(alloc);
+    let started = start(alloc, place, Starts, &program, &environment);
+    drop(program);
+    drop(environment);
+    match started {
         Ok(running) => Some(running),
         Err((place, _)) => {
             place.strand();

@@ -46,7 +46,10 @@ impl<G: Ground, R: Wait + Clock> Work<Caller<G::Callers>, Worker<G::Callers>> fo
             receipts: Receipts::new(self.alloc),
         };
         match peer {
-            Some(peer) => serve_all(self, &mut worker, &peer),
+            Some(peer) => {
+                serve_all(self, &mut worker, &peer);
+                drop(peer);
+            }
             None => worker.receipts.fail(),
         }
         worker
@@ -182,6 +185,7 @@ where
         site: &site,
     };
     let (callers, receipts) = run_all(rt, alloc, &at, new);
+    drop(at);
     close(alloc, site, callers, receipts, LIMIT)
 }
 

@@ -103,7 +103,10 @@ fn two_names(alloc: Global, command: &Command<'_>) -> Option<(Name, Name)> {
 /// `fresh NAME` makes a scratch file.
 fn fresh<D: Dir>(alloc: Global, dir: &mut D, command: &Command<'_>, out: &mut Answer) {
     match name_of(alloc, command.first) {
-        Some(name) => out.done(dir.fresh(alloc, &name)),
+        Some(name) => {
+            out.done(dir.fresh(alloc, &name));
+            drop(name);
+        }
         None => out.fail(),
     }
 }
@@ -129,7 +132,11 @@ fn patch<D: Dir>(alloc: Global, dir: &mut D, command: &Command<'_>, out: &mut An
 /// `rename FROM TO` moves one name onto another.
 fn rename<D: Dir>(alloc: Global, dir: &mut D, command: &Command<'_>, out: &mut Answer) {
     match two_names(alloc, command) {
-        Some((from, to)) => out.done(dir.rename(alloc, &from, &to)),
+        Some((from, to)) => {
+            out.done(dir.rename(alloc, &from, &to));
+            drop(from);
+            drop(to);
+        }
         None => out.fail(),
     }
 }
@@ -140,7 +147,10 @@ fn open<D: Dir>(alloc: Global, dir: &mut D, command: &Command<'_>, out: &mut Ans
         return out.fail();
     };
     match dir.open(alloc, &name) {
-        Ok(Some(file)) => show(&file, out),
+        Ok(Some(file)) => {
+            show(&file, out);
+            drop(file);
+        }
         Ok(None) => out.line("none"),
         Err(fault) => out.show_line(&fault),
     }

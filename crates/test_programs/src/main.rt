@@ -46,7 +46,22 @@ fn run_sites<R: AllocGlobal + Threads + Wait + Clock + Sync>(rt: &R, out: &mut A
     }
 }
 
-/// Runs the program with this name, with its first word and its standard input, and prints what it answers.
+/// Runs the program with this name, with its first word and its standard input.
+fn call<R: AllocGlobal + Files<File = File> + Threads + Wait + Clock + Sync>(
+    rt: &R,
+    name: &str,
+    word: &str,
+    given: &[u8],
+    out: &mut Answer,
+) {
+    match name {
+        "test_folders" => run_folder(rt, rt.alloc(), word, given, out),
+        "test_sites" => run_sites(rt, out),
+        _ => {}
+    }
+}
+
+/// Runs a program, and prints what it answers.
 fn run<R: Input + Print + AllocGlobal + Files<File = File> + Threads + Wait + Clock + Sync>(
     rt: &R,
     name: &str,
@@ -55,13 +70,14 @@ fn run<R: Input + Print + AllocGlobal + Files<File = File> + Threads + Wait + Cl
     let alloc = rt.alloc();
     let mut given = Vec::new(alloc);
     let mut out = Answer::new(alloc);
-    rt.reader().read_to_end(&mut given)?;
-    match name {
-        "test_folders" => run_folder(rt, alloc, word, &given, &mut out),
-        "test_sites" => run_sites(rt, &mut out),
-        _ => {}
+    match rt.reader().read_to_end(&mut given) {
+        Ok(_) => call(rt, name, word, &given, &mut out),
+        Err(_) => out.fail(),
     }
-    out.print(rt)
+    drop(given);
+    let printed = out.print(rt);
+    drop(out);
+    printed
 }
 
 fn main(rt: HostRuntime) -> ExitCode {

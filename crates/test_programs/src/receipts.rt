@@ -38,14 +38,18 @@ impl Receipts {
             mut list,
             has_failed,
         } = more;
-        self.has_failed |= has_failed | self.list.append(&mut list).is_err();
+        let appended = self.list.append(&mut list);
+        drop(list);
+        self.has_failed |= has_failed | appended.is_err();
     }
 
     /// Keeps the receipt of an event.
     pub(crate) fn keep(&mut self, made: Made, event: Event)
         requires { made_event made ≡ event }
     {
-        self.has_failed |= self.list.push(made.receipt(event)).is_err();
+        let kept = self.list.push(made.receipt(event));
+        self.has_failed |= kept.is_err();
+        drop(kept);
     }
 
     /// Keeps the receipt of an event, which has to be made.
@@ -54,7 +58,11 @@ impl Receipts {
     {
         match answer {
             Ok(made) => self.keep(made, event),
-            Err(_) => self.fail(),
+            Err(refusal) => {
+                drop(refusal);
+                drop(event);
+                self.fail();
+            }
         }
     }
 
@@ -64,7 +72,10 @@ impl Receipts {
     {
         match peer.copy() {
             Ok(peer) => self.keep(made, Event::Admitted { serial, peer }),
-            Err(_) => self.fail(),
+            Err(_) => {
+                drop(made);
+                self.fail();
+            }
         }
     }
 
@@ -79,7 +90,10 @@ impl Receipts {
     {
         match copy {
             Ok(decision) => self.keep_made(answer, Event::Decided { serial, decision }),
-            Err(_) => self.fail(),
+            Err(_) => {
+                drop(answer);
+                self.fail();
+            }
         }
     }
 
@@ -96,7 +110,9 @@ impl Receipts {
                 self.keep_step(made, Phase::Fresh);
                 Some(number)
             }
-            Err(_) => {
+            Err((install, _)) => {
+                drop(install);
+                drop(made);
                 self.fail();
                 None
             }
@@ -117,7 +133,10 @@ impl Receipts {
                 self.keep_step(made, phase);
                 phase != Phase::Done
             }
-            Err(_) => false,
+            Err(_) => {
+                drop(made);
+                false
+            }
         }
     }
 

@@ -1,5 +1,5 @@
 //! Sites over a directory in memory, from the start to the audit.
-ghost use Rattle.std.specs.Prelude.{◌≡◌, false, IfSome, IsTrue};
+ghost use Rattle.std.specs.Prelude.{◌≡◌, false, IfSome, IsTrue, OnOk};
 ghost use Rattle.server_events.specs.JournalParts.{books_of_journal};
 ghost use Rattle.server_yard.specs.Kept.{rules_of};
 ghost use Rattle.server_yard.specs.Standing.{BeginsWell};
@@ -16,7 +16,7 @@ use shared_site::{BackCallers, Callers, Ground, NewCallers, Receipt, Site};
 use std::alloc::{AllocError, Global};
 use std::marker::PhantomData;
 use std::sync::ledger::Blank;
-use whole_yard::close_and_audit;
+use whole_yard::{NotWhole, close_and_audit};
 
 /// What these sites stand on: a directory in memory, with these ledgers of places and of callers.
 pub(crate) struct InMemory<L, N>(PhantomData<(L, N)>);
@@ -66,20 +66,36 @@ pub(crate) fn close<G: Ground>(
     requires { G.Callers.all ≡ G.Callers.parts }
 {
     match close_and_audit(site, callers, &receipts.list) {
-        Ok((yard, Ok(()))) => report_of(alloc, yard.journal(), receipts, limit),
-        _ => None,
+        Ok((yard, audited)) => {
+            let report = report_of(alloc, yard.journal(), audited, receipts, limit);
+            drop(yard);
+            report
+        }
+        Err((site, callers)) => {
+            drop(site);
+            drop(callers);
+            None
+        }
     }
 }
 
-// What a journal reports, if that is what its history comes to. The receipts are the whole history, and are of calls
-// that have to have succeeded.
-fn report_of(alloc: Global, journal: &Journal, receipts: Receipts, limit: u64) -> Option<Report>
-    requires { IsWhole (books_of_journal journal.now).notes receipts.list.items }
+// What a journal reports, if that is what its history comes to. The receipts have to be the whole history, by their
+// audit, and of calls that all succeeded.
+fn report_of(
+    alloc: Global,
+    journal: &Journal,
+    audited: Result<(), NotWhole>,
+    receipts: Receipts,
+    limit: u64,
+) -> Option<Report>
+    requires { OnOk audited (IsWhole (books_of_journal journal.now).notes receipts.list.items) }
 {
     let report = journal.report();
     let history = in_order(alloc, receipts.list).ok()?;
-    let comes_to = replay(alloc, limit, limit, &history).ok()?;
-    (!receipts.has_failed && comes_to == report).then_some(report)
+    let comes_to = replay(alloc, limit, limit, &history);
+    drop(history);
+    let is_right = audited.is_ok() && !receipts.has_failed && comes_to.ok() == Some(report);
+    is_right.then_some(report)
 }
 
 // The events of receipts, ordered by their places.
