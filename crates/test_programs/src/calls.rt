@@ -60,15 +60,14 @@ impl<G: Ground, R: Wait + Clock> At<'_, G, R> {
         peer: &Peer,
     ) -> Option<(u64, Place<G::Places>)> {
         for _ in self.rt.forever() {
+            let are_retired = self.site.retired(self.rt).is_some();
             match self.site.turn(self.rt, &mut worker.caller, Admit { peer }) {
                 Ok((serial, place, made)) => {
                     worker.receipts.keep_admitted(made, serial, peer);
                     return Some((serial, place));
                 }
                 Err(refusal) => {
-                    if !matches!(refusal.fault(), AdmitFault::Full)
-                        || self.site.retired(self.rt).is_some()
-                    {
+                    if are_retired || !matches!(refusal.fault(), AdmitFault::Full) {
                         return None;
                     }
                     thread::sleep(self.rt, Duration::from_millis(1));
