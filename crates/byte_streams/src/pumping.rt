@@ -1,5 +1,5 @@
 //! The pump: it reads a stream, passes each piece through a chain, and writes what that gives.
-ghost use Rattle.std.specs.Prelude.{◌≡◌, ◌≢◌, ◌⊎◌, ◌+◌, ◌-◌, ◌<◌, ◌≤◌, length, true, false};
+ghost use Rattle.std.specs.Prelude.{◌≡◌, ◌≢◌, ◌⊎◌, ◌+◌, ◌-◌, ◌<◌, ◌≤◌, length, true, false, IfOk};
 ghost use Rattle.byte_streams.specs.Chains.{has_failed, wrappers_of};
 ghost use Rattle.byte_streams.specs.Wrappers.{through};
 ghost use Rattle.byte_streams.specs.Pumps.{Pumped, ends_of};
@@ -10,7 +10,7 @@ use crate::pieces::{PumpState, pump_piece};
 use crate::read_count::ReadCount;
 use crate::tap::Tap;
 use crate::{Chain, LineWrapper};
-use std::alloc::Global;
+use std::alloc::{AllocError, Global};
 use std::io::{Read, Write};
 use std::marker::Brand;
 use std::sync::ledger::{Blank, Ledger};
@@ -80,6 +80,43 @@ pub fn pump<R: Read, W: Write, S: LineWrapper, T: Tap>(
     pump_from::<R, W, S, T, Brand>(alloc, reader, writer, chain, tap, most_reads, Blank::new(1))
 }
 
+/// Makes room for the reads of `pump_once`. Its caller keeps it from call to call.
+///
+/// # Errors
+/// There was no memory.
+pub fn new_room(alloc: Global) -> Result<Vec<u8>, AllocError>
+    ensures room { IfOk result (λ room. 0 < length room.items) }
+{
+    vec![in alloc; 0u8; FIRST]
+}
+
+/// Pumps a stream as `pump` does, with one read at most, into room that its caller keeps from call to call.
+///
+/// So a caller can see to something else between two reads: at `ReadsOver` the read was made, what the chain gave was
+/// written, and the next call goes on there. The room is for reads alone, and nothing of it is used by the next call; it
+/// grows where a read filled it. At every end there is room for the next read.
+pub fn pump_once<R: Read, W: Write, S: LineWrapper, T: Tap>(
+    alloc: Global,
+    reader: &mut R,
+    writer: &mut W,
+    chain: &mut Chain<S>,
+    tap: &mut T,
+    room: &mut Vec<u8>,
+) -> PumpEnd
+    requires room { 0 < length room.old.items }
+    ensures pumped { Pumped (ends_of R.remaining W.contents S.rest reader.old writer.old chain.old)
+        (ends_of R.remaining W.contents S.rest reader.new writer.new chain.new)
+        (shown_to T.watches T.sees T.ends tap.old tap.new) 1 result }
+    ensures failed { result.why ≡ Why.Failed → has_failed chain.old ≡ true }
+    ensures gives_none { has_failed chain.old ≡ true → (result.why ≢ Why.End) × (result.given ≡ 0) }
+    ensures unfinished { (result.why ≡ Why.ReadFault) ⊎ (result.why ≡ Why.ReadsOver)
+        → has_failed chain.new ≡ has_failed chain.old }
+    ensures wholes { through S.whole (wrappers_of chain.new) ≡ through S.whole (wrappers_of chain.old) }
+    ensures room { 0 < length room.new.items }
+{
+    pump_once_from::<R, W, S, T, Brand>(alloc, reader, writer, chain, tap, room, Blank::new(1))
+}
+
 /// Pumps a stream as `pump` does, and counts its reads.
 pub fn pump_counted<R: Read, W: Write, S: LineWrapper, T: Tap, L: Ledger>(
     alloc: Global,
@@ -101,6 +138,49 @@ pub fn pump_counted<R: Read, W: Write, S: LineWrapper, T: Tap, L: Ledger>(
         → has_failed chain.new ≡ has_failed chain.old }
     ensures wholes { through S.whole (wrappers_of chain.new) ≡ through S.whole (wrappers_of chain.old) }
 {
+    let Ok(mut buffer) = new_room(alloc) else {
+        return PumpEnd {
+            taken: 0,
+            given: 0,
+            why: Why::OutOfMemory,
+        };
+    };
+    pump_through(
+        alloc,
+        reader,
+        writer,
+        chain,
+        tap,
+        most_reads,
+        &mut buffer,
+        times,
+    )
+}
+
+/// Pumps a stream as `pump_counted` does, by reads into this buffer, which may grow.
+fn pump_through<R: Read, W: Write, S: LineWrapper, T: Tap, L: Ledger>(
+    alloc: Global,
+    reader: &mut R,
+    writer: &mut W,
+    chain: &mut Chain<S>,
+    tap: &mut T,
+    most_reads: u64,
+    buffer: &mut Vec<u8>,
+    times: &mut ReadCount<L>,
+) -> PumpEnd
+    requires room { 0 < length buffer.old.items }
+    ensures pumped { Pumped (ends_of R.remaining W.contents S.rest reader.old writer.old chain.old)
+        (ends_of R.remaining W.contents S.rest reader.new writer.new chain.new)
+        (shown_to T.watches T.sees T.ends tap.old tap.new) (times.new - times.old) result }
+    ensures over { result.why ≡ Why.ReadsOver → times.new ≡ times.old + most_reads }
+    ensures within { (times.old ≤ times.new) × (times.new ≤ times.old + most_reads) }
+    ensures failed { result.why ≡ Why.Failed → has_failed chain.old ≡ true }
+    ensures gives_none { has_failed chain.old ≡ true → (result.why ≢ Why.End) × (result.given ≡ 0) }
+    ensures unfinished { (result.why ≡ Why.ReadFault) ⊎ (result.why ≡ Why.ReadsOver)
+        → has_failed chain.new ≡ has_failed chain.old }
+    ensures wholes { through S.whole (wrappers_of chain.new) ≡ through S.whole (wrappers_of chain.old) }
+    ensures room { 0 < length buffer.new.items }
+{
     if chain.has_failed() {
         return PumpEnd {
             taken: 0,
@@ -108,27 +188,13 @@ pub fn pump_counted<R: Read, W: Write, S: LineWrapper, T: Tap, L: Ledger>(
             why: Why::Failed,
         };
     }
-    let Ok(mut buffer) = vec![in alloc; 0u8; FIRST] else {
-        return PumpEnd {
-            taken: 0,
-            given: 0,
-            why: Why::OutOfMemory,
-        };
-    };
     let mut work = PumpState {
         taken: 0,
         given: 0,
         out: Vec::new(alloc),
     };
     let why = run(
-        reader,
-        writer,
-        chain,
-        tap,
-        most_reads,
-        &mut buffer,
-        &mut work,
-        times,
+        reader, writer, chain, tap, most_reads, buffer, &mut work, times,
     );
     PumpEnd {
         taken: work.taken,
@@ -158,6 +224,7 @@ fn run<R: Read, W: Write, S: LineWrapper, T: Tap, L: Ledger>(
     ensures not_failed { result ≢ Why.Failed }
     ensures stays_open { StaysOpen result (has_failed chain.old) (has_failed chain.new) }
     ensures wholes { through S.whole (wrappers_of chain.new) ≡ through S.whole (wrappers_of chain.old) }
+    ensures room { 0 < length buffer.new.items }
 {
     for _read in 0..most_reads {
         let before = work.taken;
@@ -201,4 +268,31 @@ fn pump_from<R: Read, W: Write, S: LineWrapper, T: Tap, L: Ledger>(
 {
     let mut times = ReadCount::<L>::new(blank);
     pump_counted(alloc, reader, writer, chain, tap, most_reads, &mut times)
+}
+
+/// Pumps a stream with one read at most, with a count of its reads that is made for it.
+fn pump_once_from<R: Read, W: Write, S: LineWrapper, T: Tap, L: Ledger>(
+    alloc: Global,
+    reader: &mut R,
+    writer: &mut W,
+    chain: &mut Chain<S>,
+    tap: &mut T,
+    room: &mut Vec<u8>,
+    blank: Blank,
+) -> PumpEnd
+    requires room { 0 < length room.old.items }
+    requires name { blank.name ≡ L.name }
+    requires parts { (blank.parts ≡ L.parts) × (0 < blank.parts) }
+    ensures pumped { Pumped (ends_of R.remaining W.contents S.rest reader.old writer.old chain.old)
+        (ends_of R.remaining W.contents S.rest reader.new writer.new chain.new)
+        (shown_to T.watches T.sees T.ends tap.old tap.new) 1 result }
+    ensures failed { result.why ≡ Why.Failed → has_failed chain.old ≡ true }
+    ensures gives_none { has_failed chain.old ≡ true → (result.why ≢ Why.End) × (result.given ≡ 0) }
+    ensures unfinished { (result.why ≡ Why.ReadFault) ⊎ (result.why ≡ Why.ReadsOver)
+        → has_failed chain.new ≡ has_failed chain.old }
+    ensures wholes { through S.whole (wrappers_of chain.new) ≡ through S.whole (wrappers_of chain.old) }
+    ensures room { 0 < length room.new.items }
+{
+    let mut times = ReadCount::<L>::new(blank);
+    pump_through(alloc, reader, writer, chain, tap, 1, room, &mut times)
 }

@@ -50,6 +50,15 @@ returns-in-Err g c =
       not_failed = λ is. subst IsOfPiece is told.reason;
       stays_open = subst (λ b. StaysOpen c.in-Err.why b (has_failed c.pump_piece.new.chain)) went_on told.stays_open;
       wholes = told.wholes ∙ so_far.wholes;
+      room = omega (
+        arith,
+        so_far.room,
+        ap length c.deref_mut.ensures.value,
+        c.deref_mut.ensures.len,
+        c.pump_piece.auto.buffer,
+        length-take c.loop-read.buffer.len (c.pump_piece.new.buffer ++ drop (length c.pump_piece.new.buffer) c.loop-read.buffer.items),
+        length-append c.pump_piece.new.buffer (drop (length c.pump_piece.new.buffer) c.loop-read.buffer.items),
+      );
     }
 
 pub returns : goal.returns
@@ -62,6 +71,7 @@ returns g c =
       not_failed = λ is. cc;
       stays_open = so_far.goes_on ∙ sym c.requires.goes_on;
       wholes = so_far.wholes;
+      room = so_far.room;
     }
 
 pub pump_piece-requires : goal.pump_piece-requires
