@@ -1,6 +1,7 @@
 //! Children of this process, waited for until they have ended, and killed.
 ghost use Rattle.std.specs.Prelude.{◌≡◌, ◌↔◌, ◌⊎◌, ℕ, pos, is_some, ⊤, IsSome, Some};
 ghost use Rattle.std.specs.Process.{exit_code, exit_signal};
+ghost use Rattle.libc.specs.Io.{WaitFlags};
 ghost use Rattle.child_jobs.specs.declared.outcome.Status.TheVariants.{Code, Signal};
 
 use child_jobs::{Environment, Exit, Job, NoEnds, Program, Status, WaitFault};
@@ -13,9 +14,31 @@ pub struct OsJob {
     pub(crate) number: i32,
     // whether it was waited for, by this value or by other code, so that its number may be another's
     pub(crate) gone: bool,
+    // how it ended, if `is_over` saw that: `wait` answers it
+    pub(crate) exit: Option<Exit>,
     pub(crate) ends: Option<(ChildStdin, ChildStdout)>,
     pub(crate) program: Snapshot<Program>,
     pub(crate) environment: Snapshot<Environment>,
+}
+
+impl OsJob {
+    /// Looks, without waiting, whether the child is over: it has exited or was killed, or it can't be waited for any more,
+    /// as where other code has waited for it. One that is stopped is not over, and nor is one of which the system told nothing.
+    ///
+    /// A child that has ended is waited for by this look. How it ended is kept, and `wait` answers it. From then on each
+    /// look answers the same, and `kill` refuses, since the child's number may be another's. The pipe ends stay as they are.
+    pub fn is_over(&mut self) -> bool
+        ensures program { ⟦<OsJob as Job>⟧.program self.new ≡ ⟦<OsJob as Job>⟧.program self.old }
+        ensures environment { ⟦<OsJob as Job>⟧.environment self.new ≡ ⟦<OsJob as Job>⟧.environment self.old }
+    {
+        if self.gone {
+            return true;
+        }
+        if let Ok(exit) = wait_once(self.number, libc::WNOHANG, &mut self.gone) {
+            self.exit = exit;
+        }
+        self.gone
+    }
 }
 
 impl Job for OsJob {
@@ -53,6 +76,10 @@ impl Job for OsJob {
     fn wait(mut self) -> Result<Exit, (OsJob, WaitFault)> {
         // a program that waits for input could not end
         drop(self.ends.take());
+        if let Some(exit) = self.exit {
+            self.abandon();
+            return Ok(exit);
+        }
         match wait_for_end(self.number, &mut self.gone) {
             Ok(exit) => {
                 self.abandon();
@@ -66,6 +93,7 @@ impl Job for OsJob {
         let OsJob {
             number: _,
             gone: _,
+            exit: _,
             ends: _,
             program: _,
             environment: _,
@@ -80,20 +108,27 @@ impl Job for OsJob {
 /// `Failed` where the system refused it, as where other code has waited for the child; `OutOfMemory`.
 fn wait_for_end(number: i32, gone: &mut bool) -> Result<Exit, WaitFault> {
     for _ in 0..u64::MAX {
-        if let Some(exit) = wait_once(number, gone)? {
+        if let Some(exit) = wait_once(number, 0, gone)? {
             return Ok(exit);
         }
     }
     Err(WaitFault::Failed)
 }
 
-/// Waits for the next that the system tells of the child; `None` where that is not its end.
-fn wait_once(number: i32, gone: &mut bool) -> Result<Option<Exit>, WaitFault> {
+/// Waits for the next that the system tells of the child; `None` where that is not its end. With the option `WNOHANG` it does not wait, and
+/// answers `None` as well where the system has nothing to tell yet.
+fn wait_once(number: i32, options: i32, gone: &mut bool) -> Result<Option<Exit>, WaitFault>
+    requires options { WaitFlags options }
+{
     if *gone || number <= 0 {
         return Err(WaitFault::Failed);
     }
     let mut bits = 0;
-    if unsafe { libc::waitpid(number, &mut bits, 0) } < 0 {
+    let told = unsafe { libc::waitpid(number, &mut bits, options) };
+    if told == 0 {
+        return Ok(None);
+    }
+    if told < 0 {
         let fault = os::errno();
         *gone = fault == libc::ECHILD;
         return match fault {

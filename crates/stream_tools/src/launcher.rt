@@ -67,6 +67,7 @@ impl<'a, P: Processes> OsLauncher<'a, P> {
         Ok(OsJob {
             number,
             gone: false,
+            exit: None,
             ends,
             program: Snapshot::of(run.0),
             environment: Snapshot::of(run.1),
