@@ -26,6 +26,7 @@ NO_NAMES = b"tcpserver: rules by name, and no names"
 DIGITS = rb"\d{1,19}"
 NUMBER = rb"(%s)" % DIGITS
 ADDRESS = rb"(\d{1,3}\.\d{1,3}\.\d{1,3}\.\d{1,3})"
+# (older versions printed `no thread` and `no pipe ends`)
 CAUSES = rb"(banner fault|directory fault|rules read fault|rules damaged|out of memory|no thread)"
 FAULTS = rb"(not found|refused|failed|out of memory|no pipe ends)"
 VERDICT = rb"(ok|deny) %s [^ :]*:%s:%s [^ :]*:%s:[^ :]*:%s" % (NUMBER, ADDRESS, DIGITS, ADDRESS, DIGITS)

@@ -28,7 +28,6 @@ DIRECTORY = log_forms.drop(ANY, "directory fault")
 READ_FAULT = log_forms.drop(ANY, "rules read fault")
 FAILED = log_forms.start(ANY, "failed")
 MEMORY = "(%s|%s)" % (log_forms.start(ANY, "out of memory"), log_forms.drop(ANY, "out of memory"))
-NO_PIPES = log_forms.start(ANY, "no pipe ends")
 # The calls; the errors that may come; the faults that the server may tell of at its start; the lines that may tell of one later. A call that
 # was interrupted is made again, so it changes nothing.
 CALLS = [
@@ -62,6 +61,7 @@ CALLS = [
     ("write", ["EINTR", "EAGAIN", "EIO", "EPIPE", "ENOSPC", "ENOMEM"], ["write fault"], []),
     ("send", ["EINTR", "EAGAIN", "EPIPE", "ECONNRESET", "ENOMEM"], [], []),
     ("shutdown", ["ENOTCONN"], [], []),
+    ("poll", ["EINTR", "ENOMEM"], [], []),
     ("close", ["EINTR", "EIO"], [], []),
     ("kill", ["EPERM", "ESRCH"], [], []),
 ]
@@ -193,7 +193,7 @@ class Calls:
             return call == "getsockname" and one.answer == b""
         others = [line for line in one.lines if line not in one.wanted]
         streams = log_forms.any_end(one.serial)
-        ended = call in ("read", "write", "recv", "send", "waitpid") or "no pipe ends" in "".join(others)
+        ended = call in ("read", "write", "recv", "send", "waitpid")
         known = all(any(re.fullmatch(form, line) for form in forms + ([streams] if ended else [])) for line in others)
         has_front = ANSWERS[one.source].startswith(one.answer)
         is_told = bool(others) or (call in ("read", "write", "recv", "send") and one.lines == one.wanted)
@@ -226,7 +226,6 @@ def each_call(suite):
     calls.one("none", "EIO", 1, [], [])
     reached = []
     for call, errors, faults, forms in CALLS:
-        forms = [form for form in forms if not (suite.handed and form == NO_PIPES)]
         for error in tried(errors):
             found = []
             runs, whole = failed_calls.one_after_another(

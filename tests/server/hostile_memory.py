@@ -1,9 +1,9 @@
 """Each request for memory refused in turn: every tool, and `tcpserver` with a connection of each kind.
 
 A tool ends with `out of memory`, or as with ample memory. In a server one refusal changes at most one connection, in
-one of these ways: the server closes it with the line `out of memory` and does not count it; drops it for lack of memory
-or of a thread; does not start its program for lack of memory, or kills the program, since it has no pipe ends; ends its
-streams early; or leaves out a line of the log. The next connection is served as usual.
+one of these ways: the server closes it with the line `out of memory` and does not count it; drops it, or does not start
+its program, for lack of memory; ends its streams early; or leaves out a line of the log. The next connection is served
+as usual.
 """
 import os
 import re
@@ -73,7 +73,7 @@ def change_of(kind, serial, answer, lines, wanted, handed):
     if answer == kind.answer and is_left_out(lines, wanted):
         return "left out"
     head, last = [re.escape(line) for line in wanted[:2]], [re.escape(wanted[-1])]
-    if matches(lines, head + [log_forms.drop(serial, "(out of memory|no thread)")] + last) and kind.banner.startswith(answer):
+    if matches(lines, head + [log_forms.drop(serial, "out of memory")] + last) and kind.banner.startswith(answer):
         return "dropped"
     if not wanted[2].startswith("ok "):
         return None
@@ -82,8 +82,6 @@ def change_of(kind, serial, answer, lines, wanted, handed):
         return "not started"
     if handed:
         return None
-    if matches(lines, head + [log_forms.start(serial, "no pipe ends"), log_forms.any_end(serial)] + last) and kind.banner == answer:
-        return "no pipe ends"
     if matches(lines, head + [log_forms.any_end(serial)] + last) and kind.answer.startswith(answer):
         return "streams ended"
     return None

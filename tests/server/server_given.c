@@ -5,8 +5,9 @@
    KIND is `socket`, `pipe`, `file` or `other`; FLAGS is `blocking` or `nonblocking`. What begins with `peer` stands for a socket alone: ADDRESS is
    IP:PORT, or the number of an error; OPTIONS are the socket's: nodelay, keepalive, linger, and the timeouts of receiving and sending in seconds.
    server_given pairs: for each byte of input one `a`, and two milliseconds later one `b`.
-   server_given fill PATH: numbers of eight digits, until for a second no more is taken; then it writes to PATH how many bytes it wrote, and ends with
-   what it wrote still on its way. */
+   server_given fill PATH [SIZE]: numbers of eight digits, until for a second no more is taken; then it writes to PATH how many bytes it wrote, and ends
+   with what it wrote still on its way. With SIZE the pipe that it writes to holds so many bytes. */
+#define _GNU_SOURCE
 #include <arpa/inet.h>
 #include <dirent.h>
 #include <errno.h>
@@ -133,10 +134,12 @@ static int pairs(void)
     return 0;
 }
 
-static int fill(const char *path)
+static int fill(const char *path, int size)
 {
     struct timespec time = {0, 50000000};
     long written = 0;
+    if (size && fcntl(1, F_SETPIPE_SZ, size) < size)
+        return 6;
     fcntl(1, F_SETFL, fcntl(1, F_GETFL) | O_NONBLOCK);
     for (int rounds = 0; rounds < 20; rounds++) {
         for (;;) {
@@ -157,7 +160,7 @@ static int fill(const char *path)
 int main(int words, char **word)
 {
     if (words > 2 && strcmp(word[1], "fill") == 0)
-        return fill(word[2]);
+        return fill(word[2], words > 3 ? atoi(word[3]) : 0);
     if (words > 1 && strcmp(word[1], "pairs") == 0)
         return pairs();
     int code = say_all();

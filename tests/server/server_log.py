@@ -507,6 +507,9 @@ def audits(suite):
     # the checks of this version's logs pass over nothing
     whole, longer = [head + ok + b"sh: 1: " + log_forms.log(log_forms.end(1, "signal") + more) + free for more in ("", " more")]
     suite.expect("ends of this version", (log_forms.events_of(whole).faults, len(log_forms.events_of(longer).faults)), ([], 1))
+    # (the log reader takes the lines of older ones)
+    older = [head + ok + log_forms.log("start 1 no pipe ends", log_forms.end(1)) + free, head + log_forms.log("drop 1 no thread") + free]
+    suite.expect("lines of older versions", [len(log_forms.events_of(log).faults) for log in older], [1, 1])
 
 
 def audits_of_ends(suite):

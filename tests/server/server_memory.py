@@ -3,8 +3,7 @@
 Each run serves two connections, one that the rules allow and one that they deny. A refusal may end the server with `out
 of memory` and exit code 111, or change what happens to one connection: it is closed and not counted, dropped, not
 started, or one of its streams ends early. It never gets more than it should, no other connection changes, and the
-server ends as it does with ample memory. If connections are handed over, no stream ends early, and no program lacks its
-pipe ends.
+server ends as it does with ample memory. If connections are handed over, no stream ends early.
 """
 import os
 import re
@@ -23,9 +22,8 @@ TABLE = "127.0.0.1 Mail.Example\n127.0.0.2 two.example\n=mail.example 127.0.0.1\
 RULES = '=mail.example:allow,A="one",B=/two words/\n127.0.0.2:deny\n:deny\n'
 # the lines that a refusal may bring, beside those of a run with ample memory
 MORE = [
-    "out of memory", log_forms.drop(ANY, "(out of memory|no thread)"), log_forms.start(ANY, "out of memory"), log_forms.start(ANY, "no pipe ends"),
-    log_forms.any_end(ANY), log_forms.status(ANY, ANY), log_forms.pid(ANY, "127.0.0.[12]"), log_forms.verdict("(ok|deny)", ANY, ".*", ".*"),
-    log_forms.retired(ANY),
+    "out of memory", log_forms.drop(ANY, "out of memory"), log_forms.start(ANY, "out of memory"), log_forms.any_end(ANY),
+    log_forms.status(ANY, ANY), log_forms.pid(ANY, "127.0.0.[12]"), log_forms.verdict("(ok|deny)", ANY, ".*", ".*"), log_forms.retired(ANY),
 ]
 
 
@@ -40,8 +38,7 @@ class Refusals:
         self.answers = {ALLOWED: answer, DENIED: BANNER.encode()}
         # what the program says where its input ended before it got any
         self.early = answer if early is None else early
-        more = [form for form in MORE if not (suite.handed and "no pipe ends" in form)]
-        self.forms = [re.compile(form) for form in more + ([r"\d+ [<>] .*"] if recorded else [])]
+        self.forms = [re.compile(form) for form in MORE + ([r"\d+ [<>] .*"] if recorded else [])]
         self.requests = refusals.Requests(suite.folder)
 
     def serve(self, request):

@@ -216,7 +216,6 @@ def refused_threads(suite):
 def kept_threads(suite):
     """Threads are made when more connections come at once than there are threads for, and kept: one after another takes none. Where many are served
     at once, each has a thread that ends with it. All end with the server."""
-    each = 1 if suite.handed else 2
     # the first thread, and one that is a process in reserve
     others = 2
     with suite.start(["-v", "-c", "100", "-k", "321"] + server_runs.QUIET, [shutil.which("cat")]) as server:
@@ -229,27 +228,27 @@ def kept_threads(suite):
                 suite.expect("%d at once" % count, clients[-1].recv(1), b"x")
             return clients
 
-        server_runs.wait_until("the first threads", lambda: server.threads() == others + each)
+        server_runs.wait_until("the first threads", lambda: server.threads() == others + 1)
         for _ in range(200):
             suite.expect("one after another", server.ask(b"a\n"), b"a\n")
         # the next client may come before the last connection is told
-        suite.holds("threads after 200 connections", server.threads() <= others + 12 * each, server.threads())
+        suite.holds("threads after 200 connections", server.threads() <= others + 12, server.threads())
         # each of thirty has one, and some begin connections: more where the machine has other work
         clients = talking(30)
-        least = others + 31 * each
+        least = others + 31
         server_runs.wait_until("threads of thirty at once", lambda: server.threads() >= least)
         kept = server.threads()
-        suite.holds("threads of thirty at once", kept <= least + 20 * each, kept)
+        suite.holds("threads of thirty at once", kept <= least + 20, kept)
         for client in clients:
             client.close()
         server_runs.wait_until("their ends", lambda: server.live() == 0)
-        server_runs.wait_until("threads after them", lambda: kept - each <= server.threads() <= kept + 2 * each)
+        server_runs.wait_until("threads after them", lambda: kept - 1 <= server.threads() <= kept + 2)
         clients = talking(90)
-        server_runs.wait_until("threads of ninety at once", lambda: server.threads() >= others + 91 * each)
+        server_runs.wait_until("threads of ninety at once", lambda: server.threads() >= others + 91)
         for client in clients:
             client.close()
         server_runs.wait_until("their ends", lambda: server.live() == 0)
-        server_runs.wait_until("the ends of threads", lambda: server.threads() <= others + 60 * each)
+        server_runs.wait_until("the ends of threads", lambda: server.threads() <= others + 60)
         suite.expect("the last one", server.ask(b"a\n"), b"a\n")
         suite.expect("its end", server.end(), 0)
         suite.audit("kept threads", server)

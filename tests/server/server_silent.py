@@ -18,10 +18,12 @@ BOUND = 60
 ALL = 600
 SLACK = 30
 MORE = 8
-# bytes: the buffer that the system has for what is sent to a client that takes a little, where it would else take more and more; and what may be on its
-# way to that client, and is not lost
+# bytes: the buffer that the system has for what is sent to a client that takes a little, where it would else take more and more; what may be on its way
+# to that client, and is not lost; what the pipe of its program holds; and how much of that the server keeps at most
 BUFFER = 16384
 HELD = 80000
+PIPE = 1 << 20
+PIECE = 65536
 SILENT, OTHER = "127.0.0.2", "127.0.0.3"
 # one client's program writes until it is stopped, with more on its way than anything takes; all others are greeted
 PROGRAM = ["sh", "-c", 'test "$TCPREMOTEIP" = %s || exec echo hi; timeout 1 cat /dev/zero; exit 5' % SILENT]
@@ -143,27 +145,30 @@ def holder_that_waits(suite):
 
 
 def too_slow_in_all(suite):
-    """Who takes a little every twenty seconds loses what is left after 600 in all: in a server whose time passes ten times as fast."""
-    fast = 10
+    """Who takes 600 bytes a second loses what is left after 600 seconds in all, though by then he has taken several times all that the server had kept for
+    him: in a server whose time passes ten times as fast."""
+    fast, rate = 10, 600
     path = suite.path("too-slow")
     variables = dict(failed_calls.in_fast_time(suite.folder, fast), SEND_BUFFER=str(BUFFER))
-    # (its own second, after which it gives up, is a whole one: so much is left that the system can't hold it for the client)
-    fill = ["env", "-u", "LD_PRELOAD", suite.compiled("server/server_given.c"), "fill", path]
+    # (its own second, after which it gives up, is a whole one: so much is left that the client would take half an hour for it)
+    fill = ["env", "-u", "LD_PRELOAD", suite.compiled("server/server_given.c"), "fill", path, str(PIPE)]
     with suite.start(["-v", "-c", "1"], fill, env=variables) as server, small(server, SILENT, 2048, 500) as client:
         server_runs.wait_until("the end of a program", lambda: os.path.exists(path) and os.path.getsize(path) > 0)
         began, got = time.monotonic(), 0
         while server.live() and time.monotonic() < began + ALL / fast + SLACK:
-            got += len(client.recv(1500))
-            time.sleep(20 / fast)
+            while got < (time.monotonic() - began) * fast * rate and (piece := client.recv(1500)):
+                got += len(piece)
+            time.sleep(5 / fast)
         took, taken = (time.monotonic() - began) * fast, got
         got += len(read_all(client))
         with open(path) as file:
             written = int(file.read())
         server.idle()
-        name = "a little every twenty seconds"
+        name = "a little every five seconds"
         return [
             (name + ": the bound in all", ALL - 120 <= took <= ALL + SLACK * fast or took, True),
-            (name + ": the rest is lost, but for what the system has", got < written or written - taken <= HELD or got, True),
+            (name + ": more was taken than is kept at a time", taken > 3 * PIECE or taken, True),
+            (name + ": the rest is lost, but for what the system has", got < written and got - taken <= HELD or (taken, got, written), True),
             (name + ": the end", [line for line in server.lines() if line.startswith("end ")], [log_forms.end(1)]),
         ], server
 

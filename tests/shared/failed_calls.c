@@ -10,6 +10,7 @@
 #include <dlfcn.h>
 #include <errno.h>
 #include <fcntl.h>
+#include <poll.h>
 #include <pthread.h>
 #include <signal.h>
 #include <spawn.h>
@@ -156,6 +157,7 @@ CALL(int, listen, (int a, int b), (a, b), a)
 CALL(int, getsockname, (int a, struct sockaddr *b, socklen_t *c), (a, b, c), a)
 CALL(int, accept4, (int a, struct sockaddr *b, socklen_t *c, int d), (a, b, c, d), a)
 CALL(int, shutdown, (int a, int b), (a, b), a)
+CALL(int, poll, (struct pollfd *a, nfds_t b, int c), (a, b, c), -1)
 CALL(int, pipe2, (int a[2], int b), (a, b), -1)
 CALL(pid_t, waitpid, (pid_t a, int *b, int c), (a, b, c), -1)
 CALL(int, waitid, (idtype_t a, id_t b, siginfo_t *c, int d), (a, b, c, d), -1)

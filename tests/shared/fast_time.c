@@ -1,12 +1,11 @@
 /* A library to load before the C library: time passes FAST_TIMES times as fast for a program, on the clock that only goes forward, in its sleeps, and in
-   the times after which a write to a socket is given up. With SEND_BUFFER the system keeps about so many bytes for each client that is accepted, and not
-   more and more of them. Programs that are started meet none of this. */
+   its waits for descriptors. With SEND_BUFFER the system keeps about so many bytes for each client that is accepted, and not more and more of them.
+   Programs that are started meet none of this. */
 #define _GNU_SOURCE
-#include <dlfcn.h>
+#include <poll.h>
 #include <stdlib.h>
 #include <sys/socket.h>
 #include <sys/syscall.h>
-#include <sys/time.h>
 #include <time.h>
 #include <unistd.h>
 
@@ -58,15 +57,9 @@ int listen(int a, int waiting)
     return (int)syscall(SYS_listen, a, waiting);
 }
 
-int setsockopt(int a, int level, int name, const void *value, socklen_t size)
+/* One that would wait waits for a millisecond at least. */
+int poll(struct pollfd *watched, nfds_t number, int milliseconds)
 {
-    static int (*next)(int, int, int, const void *, socklen_t);
-    if (!next)
-        next = (int (*)(int, int, int, const void *, socklen_t))dlsym(RTLD_NEXT, "setsockopt");
-    if (level != SOL_SOCKET || name != SO_SNDTIMEO || size != sizeof(struct timeval))
-        return next(a, level, name, value, size);
-    const struct timeval *time = value;
-    long long all = (time->tv_sec * 1000000LL + time->tv_usec) / times;
-    struct timeval shorter = {all / 1000000, all % 1000000};
-    return next(a, level, name, &shorter, size);
+    long long shorter = milliseconds > 0 ? (milliseconds + times - 1) / times : milliseconds;
+    return (int)syscall(SYS_poll, watched, number, (int)shorter);
 }

@@ -54,7 +54,7 @@ def full(address):
 
 
 def start(serial, fault):
-    """A program that is not started, or has no pipe ends."""
+    """A program that is not started."""
     return "start %s %s" % (serial, fault)
 
 
@@ -63,6 +63,8 @@ def log(*lines):
     return "".join("tcpserver: %s\n" % line for line in lines).encode()
 
 
+# what only older versions logged, which the log reader still takes
+OLDER = re.compile(rb"tcpserver: (drop \d+ no thread|start \d+ no pipe ends)")
 # one that a program may have begun to write, with the server's own line behind that
 WHOLE_END = re.compile(rb"tcpserver: %s" % any_end(ANY).encode())
 
@@ -74,7 +76,9 @@ def is_other_end(text):
 
 
 def events_of(text, per=None):
-    """The events of a log, and what does not fit in it: what the log reader finds, and what it passes over behind an end, for later versions."""
+    """The events of a log, and what does not fit in it: what the log reader finds, what it passes over behind an end, for later versions, and what it
+    takes of older ones."""
     events = log_events.Events(text, per)
     events.faults += ["more than an end: %r" % line for line in text.split(b"\n") if is_other_end(line)]
+    events.faults += ["of an older version: %r" % line for line in text.split(b"\n") if OLDER.fullmatch(line)]
     return events

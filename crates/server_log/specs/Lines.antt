@@ -84,15 +84,14 @@ cause_text NoThread = Some (codes "no thread")
 abbrev pub drop_text : ℕ → List ℕ → List ℕ
 drop_text serial words = codes "tcpserver: drop " ++ decimal serial ++ codes " " ++ words ++ codes "\n"
 
--- the words for a fault of a start; without a fault the child gave no pipe ends
-abbrev pub fault_text : Option StartFault → List ℕ
-fault_text (Some NotFound) = codes "not found"
-fault_text (Some Refused) = codes "refused"
-fault_text (Some Other) = codes "failed"
-fault_text (Some OutOfMemory) = codes "out of memory"
-fault_text None = codes "no pipe ends"
+-- the words for a fault of a start
+abbrev pub fault_text : StartFault → List ℕ
+fault_text NotFound = codes "not found"
+fault_text Refused = codes "refused"
+fault_text Other = codes "failed"
+fault_text OutOfMemory = codes "out of memory"
 
-abbrev pub start_text : ℕ → Option StartFault → List ℕ
+abbrev pub start_text : ℕ → StartFault → List ℕ
 start_text serial fault = codes "tcpserver: start " ++ decimal serial ++ codes " " ++ fault_text fault ++ codes "\n"
 
 abbrev pub full_text : List ℕ → List ℕ
@@ -163,7 +162,7 @@ runs_lines level voice serial (Some process) = person voice level (runs_text ser
 -- The lines of the end of a connection. A cause stands right behind its fault.
 abbrev pub end_lines : Level → Voice → Told → List (List ℕ)
 end_lines level voice (Told.StartFailed serial fault cause) =
-    error level (start_text serial (Some fault)) ++ cause_lines (detail_of voice level) cause
+    error level (start_text serial fault) ++ cause_lines (detail_of voice level) cause
 end_lines level voice (Told.Ended serial status signal) =
     progress level (end_text serial status) ++ signal_lines level voice serial signal
 end_lines level voice (Told.Retired serial) = error level (retired_text serial)
@@ -181,10 +180,7 @@ event_lines level voice limit live (Told.Decided serial verdict local peer file)
 event_lines level voice limit live (Told.Started serial process) = runs_lines level voice serial process
 event_lines level voice limit live told = end_lines level voice told ++ status_lines level limit live
 
--- what else a log tells: a child that gave no pipe ends, and an address that is full
-abbrev pub no_ends_lines : Level → ℕ → List (List ℕ)
-no_ends_lines level serial = error level (start_text serial None)
-
+-- what else a log tells: an address that is full
 abbrev pub full_lines : Level → List ℕ → List (List ℕ)
 full_lines level ip = error level (full_text ip)
 

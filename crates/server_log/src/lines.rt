@@ -133,7 +133,7 @@ impl Lines {
                 fault,
                 cause,
             } => {
-                self.add(to, Shown::Fault, &start_line(serial, Some(fault)));
+                self.add(to, Shown::Fault, &start_line(serial, fault));
                 self.add_cause(to, Shown::Cause, cause);
             }
             Told::Ended {
@@ -289,8 +289,8 @@ pub(crate) fn status_line(live: u64, limit: u64) -> [Piece<'static>; 4]
     ]
 }
 
-/// The line of why a connection's child was not started. `None` is for a child that was started and gave no pipe ends.
-pub(crate) fn start_line(serial: u64, fault: Option<StartFault>) -> [Piece<'static>; 4]
+/// The line of why a connection's child was not started.
+fn start_line(serial: u64, fault: StartFault) -> [Piece<'static>; 4]
     ensures { line_of result ≡ start_text serial fault }
 {
     let words = fault_words(fault);
@@ -336,14 +336,13 @@ fn cause_words(cause: DropCause) -> Option<&'static str>
     }
 }
 
-fn fault_words(fault: Option<StartFault>) -> &'static str
+fn fault_words(fault: StartFault) -> &'static str
     ensures { result.now ≡ fault_text fault }
 {
     match fault {
-        Some(StartFault::NotFound) => "not found",
-        Some(StartFault::Refused) => "refused",
-        Some(StartFault::Other) => "failed",
-        Some(StartFault::OutOfMemory) => "out of memory",
-        None => "no pipe ends",
+        StartFault::NotFound => "not found",
+        StartFault::Refused => "refused",
+        StartFault::Other => "failed",
+        StartFault::OutOfMemory => "out of memory",
     }
 }

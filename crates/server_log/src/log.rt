@@ -2,12 +2,12 @@
 ghost use Rattle.std.specs.Prelude.{◌≡◌, ◌≢◌, ◌↔◌, Err, IfErr, IsTrue, List, ℕ};
 ghost use Rattle.std.specs.Io.{WritesAtMost};
 ghost use Rattle.std.specs.Io.KnownBytes.{Keeps, WriteAppends};
-ghost use Rattle.server_log.specs.Lines.{event_lines, full_lines, listening_text, memory_lines, no_ends_lines, no_names_lines, person, status_lines};
+ghost use Rattle.server_log.specs.Lines.{event_lines, full_lines, listening_text, memory_lines, no_names_lines, person, status_lines};
 ghost use Rattle.server_log.specs.Logs.{Holds, IsLater, KeepsSettings, Logged, Takes, TellsInOrder, held, last_of, level_of, limit_of, voice_of, writer_of};
 ghost use Rattle.server_log.specs.Pieces.{line_of, told_lines};
 
 use crate::fault::LogFault;
-use crate::lines::{Lines, Settings, Shown, start_line, status_line};
+use crate::lines::{Lines, Settings, Shown, status_line};
 use crate::pieces::Piece;
 use crate::pieces::Piece::{Address, Number, Text};
 use crate::told::Told;
@@ -107,16 +107,6 @@ impl<W: Write> Log<W> {
             port,
         ];
         self.tell_line(Shown::Person, &line)
-    }
-
-    /// Tells that a child which was started gave no pipe ends, or that its input got no thread.
-    pub fn no_pipe_ends(&mut self, serial: u64) -> Result<(), LogFault>
-        ensures lines { Logged (no_ends_lines (level_of self.old) serial)
-            (held W.contents self.old) (held W.contents self.new) result }
-        ensures same { KeepsSettings self.old self.new }
-        ensures no_event { last_of self.new ≡ last_of self.old }
-    {
-        self.tell_line(Shown::Fault, &start_line(serial, None))
     }
 
     /// Tells that a connection was refused, since as many of its address are alive as may be.

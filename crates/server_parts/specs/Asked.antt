@@ -1,13 +1,10 @@
 -- Whether what a server has is what its words ask for, and why it may have none.
-use Rattle.std.specs.Prelude.{◌≡◌, ⊤, ℕ, Bool, List, Option, IsSome}
+use Rattle.std.specs.Prelude.{◌≡◌, ⊤, ℕ, List, Option, IsSome}
 use Rattle.child_jobs.specs.Plans.{PlanText}
 use Rattle.server_parts.specs.Services.{program_by}
 use Rattle.server_parts.specs.declared.fault.ServerFault.{ServerFault}
 use Rattle.server_parts.specs.declared.fault.ServerFault.TheVariants.{BadHosts, Device, OutOfMemory, ReadFault}
-use Rattle.server_parts.specs.declared.programs.ProgramStarter.{ProgramStarter}
-use Rattle.server_parts.specs.declared.sockets.SocketAcceptor.{SocketAcceptor}
 use Rattle.server_words.specs.Plans.{ServerPlan}
-use Rattle.server_words.specs.declared.mode.Mode.{Mode}
 
 -- all connections have the program of the words, with all its arguments in their order, and the banner of `-B`
 pub record IsAskedPlan (words : ServerPlan) (plan : PlanText) : Type 0 where
@@ -26,18 +23,3 @@ abbrev pub FailsRules : ServerFault → Type 0
 FailsRules Device = ⊤
 FailsRules OutOfMemory = ⊤
 FailsRules fault = ⊥
-
--- whether an acceptor's connections are handed over or pumped, the socket that they come from, and whether what is
--- written to them is sent at once
-abbrev pub accepts_in : {R T : Type 0} → SocketAcceptor R T → Mode
-accepts_in acceptor = acceptor.mode
-
-abbrev pub accepts_from : {R T : Type 0} → SocketAcceptor R T → T
-accepts_from acceptor = acceptor.listener
-
-abbrev pub accepts_at_once : {R T : Type 0} → SocketAcceptor R T → Bool
-accepts_at_once acceptor = acceptor.sends_at_once
-
--- whether a starter's programs hold their connections themselves, or have pipes
-abbrev pub starts_in : {R : Type 0} → ProgramStarter R → Mode
-starts_in starter = starter.mode

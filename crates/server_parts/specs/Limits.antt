@@ -21,7 +21,7 @@ room_of limits = min (limits.data - data_alone) (limits.addresses - addresses_al
 abbrev pub at_once_in : MemoryLimits → ℕ → ℕ
 at_once_in limits start = if nat_lt (room_of limits) (5 * start) then 1 else 4
 
--- what its first connection takes, whose program inherits no variables: 320 KiB, and, if it is pumped, 448 KiB for buffers and a second thread
+-- what its first connection takes, whose program inherits no variables: 320 KiB, and, if it is pumped, 448 KiB for buffers
 abbrev pub first_connection : Mode → ℕ
 first_connection HandedOver = 327680
 first_connection Pumped = 786432

@@ -41,12 +41,7 @@ abbrev pub to_go_on : Mode → ℕ
 to_go_on HandedOver = 0
 to_go_on Pumped = 3
 
--- its threads: one, and where it is pumped a second one, which passes on what its client sends
-abbrev pub threads : Mode → ℕ
-threads HandedOver = 1
-threads Pumped = 2
-
+-- a connection takes these of what the system gives a server
 pub record IsSupplyIn (mode : Mode) (supply : Supply) : Type 0 where
   pub begin : supply.to_begin ≡ to_begin mode
   pub go_on : supply.to_go_on ≡ to_go_on mode
-  pub threads : supply.threads ≡ threads mode

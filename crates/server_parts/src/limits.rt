@@ -80,14 +80,14 @@ const START: usize = 64 * 1024;
 
 const GOING_ON: usize = 32 * 1024;
 
-const BUFFERS: usize = 256 * 1024;
+const BUFFERS: usize = 448 * 1024;
 
 /// What a server takes of data and of address space, in bytes, beside its connections, as `bench/least` measures it.
 const DATA_ALONE: u64 = 540_000;
 
 const ADDRESSES_ALONE: u64 = 3_500_000;
 
-/// What starting a program takes that inherits no variables; and what a connection that is pumped takes beside it: its buffers, and a second thread.
+/// What starting a program takes that inherits no variables; and what a connection that is pumped takes beside it: its buffers.
 const START_ALONE: u64 = 327_680;
 
 const PUMPED_ALONE: u64 = 458_752;
@@ -98,9 +98,9 @@ pub fn supply_for(mode: Mode, connections: u64, variables: usize) -> Supply
 {
     let most = connections.saturating_mul(PUMPED).saturating_add(BESIDE);
     let descriptors = free_descriptors(most).saturating_sub(OWN);
-    let (to_begin, to_go_on, threads, buffers) = match mode {
-        Mode::HandedOver => (HANDED, 0, 1, 0),
-        Mode::Pumped => (PUMPED, PUMPED_ON, 2, BUFFERS),
+    let (to_begin, to_go_on, buffers) = match mode {
+        Mode::HandedOver => (HANDED, 0, 0),
+        Mode::Pumped => (PUMPED, PUMPED_ON, BUFFERS),
     };
     let texts = variables.saturating_mul(4).saturating_add(TEXTS);
     let start = texts.saturating_mul(PAGE).saturating_add(START);
@@ -116,7 +116,6 @@ pub fn supply_for(mode: Mode, connections: u64, variables: usize) -> Supply
         descriptors,
         to_begin,
         to_go_on,
-        threads,
         memory: is_limited.then_some(memory),
     }
 }

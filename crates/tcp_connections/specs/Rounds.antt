@@ -36,9 +36,9 @@ pub record RoundEnds {J : Type 0} (kills : Kills J) (ends : EndsAs J) (by_force 
   pub ready : IsReady kills by_force old waiting
   pub told : ends waiting status
 
--- the first round is by force where so, and the second and the third always
-abbrev pub rounds : (by_force : Bool) → List Bool
-rounds by_force = by_force ∷ true ∷ true ∷ []
+-- the first round kills nothing, and the second and the third kill by force
+abbrev pub rounds : List Bool
+rounds = false ∷ true ∷ true ∷ []
 
 -- all of these rounds failed, one after another
 abbrev pub AllFail : {J : Type 0} → Kills J → FailsToWait J → List Bool → J → Type 0

@@ -73,9 +73,6 @@ pub trait Serving {
     /// A connection that was let in.
     type Work;
 
-    /// The stream from a client, which `pass_up` passes on.
-    type Upward: Send + Drop;
-
     /// A connection whose program runs.
     type Alive: Send;
 
@@ -85,15 +82,11 @@ pub trait Serving {
     /// Whether a connection that is over was retired.
     ghost retired: { Self.Over → Bool };
 
-    /// Serves a connection up to the start of its program. The answer has the stream from the client, if that is to be
-    /// passed on.
+    /// Serves a connection up to the start of its program.
     ///
     /// # Errors
     /// The connection is over.
-    fn begin(&self, work: Self::Work) -> Result<(Option<Self::Upward>, Self::Alive), Self::Over>;
-
-    /// Passes on what the client sends, to its end.
-    fn pass_up(&self, upward: Self::Upward);
+    fn begin(&self, work: Self::Work) -> Result<Self::Alive, Self::Over>;
 
     /// Serves a connection whose program runs to its end.
     fn finish(&self, alive: Self::Alive) -> Self::Over;

@@ -21,7 +21,7 @@ pub mod supply;
 mod threads;
 pub mod workers;
 
-pub use accepting::{AcceptError, Accepted, Acceptor, Follow, Patience, Shut};
+pub use accepting::{AcceptError, Accepted, Acceptor};
 pub use admission::{Admission, Refused, ServeEnd, Serving};
 pub use door::Errors;
 pub use names::HostNames;

@@ -6,22 +6,21 @@ ghost use Rattle.tcp_connections.specs.Rounds.{AllFail, IsReady, OneEnds, RoundE
 use child_jobs::{Exit, Job, Place, Running, finish};
 use std::sync::ledger::Ledger;
 
-/// Waits for a child in up to three rounds. It is killed before the second and the third, and under `by_force` before
-/// the first too. Its place is given back with how it ended, as the wait of the last round told.
+/// Waits for a child in up to three rounds. It is killed before the second and the third. Its place is given back with
+/// how it ended, as the wait of the last round told.
 ///
 /// # Errors
 /// All three waits failed: the same child holds the same place.
 pub fn wait_in_rounds<L: Ledger, C: Job>(
     running: Running<L, C>,
-    by_force: bool,
 ) -> Result<(Place<L>, Exit), Running<L, C>>
     ensures place { IfOk result (λ ended. ended.0 ≡ place_of running) }
     ensures told { IfOk result (λ ended.
-        OneEnds C.killed C.refused_wait C.ended (rounds by_force) (job_of running) ended.1.status) }
-    ensures failed { OnErr result (AllFail C.killed C.refused_wait (rounds by_force) (job_of running)) }
+        OneEnds C.killed C.refused_wait C.ended rounds (job_of running) ended.1.status) }
+    ensures failed { OnErr result (AllFail C.killed C.refused_wait rounds (job_of running)) }
     ensures same { IfErr result (IsSameRun C.program C.environment running) }
 {
-    match wait_once(running, by_force) {
+    match wait_once(running, false) {
         Ok(ended) => Ok(ended),
         Err(running) => match wait_once(running, true) {
             Ok(ended) => Ok(ended),

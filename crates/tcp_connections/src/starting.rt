@@ -7,7 +7,7 @@ ghost use Rattle.child_jobs.specs.Variables.{Variables};
 use child_jobs::{Environment, Job, Launcher, NotStarted, Program};
 use std::alloc::Global;
 
-/// Starts the programs of connections. An `X` shuts a connection.
+/// Starts the programs of connections. An `X` is a connection.
 pub trait Starter<X> {
     /// What it starts.
     type Job: Job;
@@ -42,7 +42,7 @@ pub trait Starter<X> {
 pub struct ConnectionLauncher<'a, S, X> {
     /// Starts its program.
     pub starter: &'a S,
-    /// Shuts the connection.
+    /// The connection itself.
     pub connection: &'a X,
 }
 

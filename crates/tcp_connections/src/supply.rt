@@ -23,8 +23,6 @@ pub struct Supply {
     pub to_begin: u64,
     /// How many it takes once its child runs; no more than before.
     pub to_go_on: u64,
-    /// How many threads it takes: a second one if what its client sends is passed on.
-    pub threads: usize,
     /// What connections take of memory, if it is limited.
     pub memory: Option<Memory>,
 }
@@ -95,15 +93,10 @@ impl MemoryLook {
         !self.supply.has_reserve() || self.has(workers, 0)
     }
 
-    /// Whether there is memory for the threads of one more worker too, if it is low. The C library keeps what threads
+    /// Whether there is memory for the thread of one more worker too, if it is low. The C library keeps what threads
     /// took that are over, and a program would lack it.
-    pub fn has_stacks(&self, workers: usize) -> bool {
-        self.supply.has_reserve() || self.has(workers, self.supply.threads.saturating_mul(THREAD))
-    }
-
-    /// Whether a worker has a second thread, which passes on what clients send.
-    pub fn wants_second(&self) -> bool {
-        self.supply.threads > 1
+    pub fn has_stack(&self, workers: usize) -> bool {
+        self.supply.has_reserve() || self.has(workers, THREAD)
     }
 
     // Whether there is memory for the connections of this many workers and for this many bytes more, if it is limited.

@@ -4,9 +4,7 @@ ghost use Rattle.std.specs.Thread.{IsSend, IsSync};
 use crate::admission::Serving;
 use crate::handover::Handover;
 use crate::means::{Means, Permit};
-use crate::supply::MemoryLook;
-use std::alloc::Global;
-use std::sync::{Arc, Wait};
+use std::sync::Wait;
 use std::thread;
 use std::thread::{Builder, Scope, Threads};
 
@@ -19,59 +17,14 @@ pub(crate) fn connection_thread() -> Builder {
     Builder::new().stack_size(STACK)
 }
 
-/// What gives streams from clients to a second thread, which passes them on, one after another.
-pub(crate) type Second<U> = Arc<Handover<U>, Global>;
-
-/// Starts a second thread, which passes on what each client sends, one after another, until no more come. Whether the
-/// system had one.
-pub(crate) fn start_passing_up<'a: 's, 's, 'e, R, V>(
-    scope: &Scope<'s, &'e ()>,
-    rt: &'a R,
-    server: &'a V,
-    memory: &'s MemoryLook,
-    sent: Second<V::Upward>,
-) -> bool
-where
-    R: Wait + Sync + 's,
-    V: Serving + Sync + 's,
-{
-    connection_thread()
-        .spawn_scoped(
-            scope,
-            move ||
-                requires { IsSync R.row × IsSync V.row × IsSend V.Entrance.row × IsSend V.Upward.row }
-            { pass_up_in_turn(rt, server, memory, &sent) },
-        )
-        .is_ok()
-}
-
-// Passes on what each client sends, one after another, until no more come.
-fn pass_up_in_turn<R: Wait, V: Serving>(
-    rt: &R,
-    server: &V,
-    memory: &MemoryLook,
-    sent: &Handover<V::Upward>,
-) {
-    memory.begin_thread();
-    for _ in rt.forever() {
-        sent.finish(rt);
-        let Some(upward) = sent.take(rt) else {
-            return;
-        };
-        server.pass_up(upward);
-    }
-}
-
-/// A connection whose program runs, with the second thread that passes on what its client sends, if there is one. To
-/// drop it is to go on with it to its end, and to let the second thread go. So none is lost on the way from one thread
-/// to another.
+/// A connection whose program runs. To drop it is to go on with it to its end. So none is lost on the way from one
+/// thread to another.
 pub(crate) struct GoingOn<'a, R: Wait, V: Serving> {
     pub rt: &'a R,
     pub server: &'a V,
     pub means: &'a Means,
     pub alive: V::Alive,
     pub permit: Permit,
-    pub second: Option<Second<V::Upward>>,
 }
 
 impl<R: Wait, V: Serving> Drop for GoingOn<'_, R, V> {
@@ -82,13 +35,8 @@ impl<R: Wait, V: Serving> Drop for GoingOn<'_, R, V> {
             means,
             alive,
             permit,
-            second,
         } = self;
         let over = server.finish(alive);
-        if let Some(second) = second {
-            second.wait(rt);
-            second.close(rt);
-        }
         means.ended(rt, permit, server.is_retired(&over));
     }
 }
@@ -105,7 +53,7 @@ where
     let _ = connection_thread().spawn_scoped(
         scope,
         move ||
-            requires { IsSync R.row × IsSync V.row × IsSend V.Entrance.row × IsSend V.Upward.row × IsSend V.Alive.row }
+            requires { IsSync R.row × IsSync V.row × IsSend V.Entrance.row × IsSend V.Alive.row }
         { drop(going_on) },
     );
 }

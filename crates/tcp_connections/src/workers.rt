@@ -11,12 +11,9 @@ use crate::door::{Door, Errors, Pause};
 use crate::handover::Handover;
 use crate::means::{Means, Permit};
 use crate::supply::{MemoryLook, Reserve, Supply};
-use crate::threads::{
-    GoingOn, Second, connection_thread, has_processes, start_going_on, start_passing_up,
-    start_waiting,
-};
+use crate::threads::{GoingOn, connection_thread, has_processes, start_going_on, start_waiting};
 use std::alloc::Global;
-use std::sync::{Arc, Wait};
+use std::sync::Wait;
 use std::thread;
 use std::thread::{Scope, Threads};
 use std::time::Clock;
@@ -32,7 +29,6 @@ const PROCESSES: u64 = 4;
 #[derive(Drop)]
 pub struct Workers<'a, R, V: Serving, A> {
     rt: &'a R,
-    alloc: Global,
     server: &'a V,
     arrivals: Arrivals<A, V::Entrance>,
     memory: MemoryLook,
@@ -59,8 +55,8 @@ where
     /// Lets connections of `acceptor` in until `count` were let in or no more can be. Then it drops the acceptor, waits
     /// until all that were let in are over, and gives `entrance` back with the errors of accepting that came last. At most
     /// `most` connections are alive at once. Each worker accepts one, lets it in, and serves it until its program runs. It
-    /// goes on with few itself, and with one of many a thread does that ends with it. A second thread passes on what the
-    /// client sends, if `supply` says so. This thread makes one more worker whenever none waits for a connection.
+    /// goes on with few itself, and with one of many a thread does that ends with it. This thread makes one more worker
+    /// whenever none waits for a connection.
     ///
     /// The count begins at 0, since nobody was let in by `entrance` before. By faults of accepting it ends only if the
     /// last hundred answers of the acceptor were errors, or if `supply` doesn't suffice for one connection. For want of
@@ -97,7 +93,6 @@ where
         let means = Means::new(supply, most, count);
         let workers = Workers {
             rt,
-            alloc,
             server,
             arrivals: Arrivals::new(acceptor, Door::new(entrance, count)),
             memory: MemoryLook::new(alloc, supply),
@@ -118,7 +113,7 @@ where
             thread::scope_env(),
             workers.rt,
             move |scope|
-                requires { IsSync R.row × IsSync V.row × IsSend V.Entrance.row × IsSend V.Upward.row × IsSend V.Alive.row
+                requires { IsSync R.row × IsSync V.row × IsSend V.Entrance.row × IsSend V.Alive.row
                     × IsSend A.row × IsSync A.row }
             {
                 if !workers.has_reserve || !start_waiting(scope, workers.rt, &workers.reserve.end) {
@@ -159,8 +154,7 @@ where
         let workers = usize::try_from(self.means.workers(self.rt)).unwrap_or(usize::MAX);
         let workers = workers.saturating_add(1);
         let mut stays = false;
-        if self.memory.has_stacks(workers) && self.start_worker(scope, workers, beginning) {
-            self.came_up.finish(self.rt);
+        if self.memory.has_stack(workers) && self.start_worker(scope, workers, beginning) {
             stays = self.came_up.take(self.rt) == Some(true);
         }
         self.means.let_begin(self.rt);
@@ -179,79 +173,35 @@ where
             .spawn_scoped(
                 scope,
                 move ||
-                    requires { IsSync R.row × IsSync V.row × IsSend V.Entrance.row × IsSend V.Upward.row × IsSend V.Alive.row
+                    requires { IsSync R.row × IsSync V.row × IsSend V.Entrance.row × IsSend V.Alive.row
                         × IsSend A.row × IsSync A.row }
                 { workers.come_to_work(scope, number, beginning) },
             )
             .is_ok()
     }
 
-    // A new worker reports whether it stays: whether it has a second thread if it needs one, and there is what the
-    // connections of so many workers take beside those that begin. If it stays, it works.
+    // A new worker reports once whether it stays: whether there is what the connections of so many workers take beside
+    // those that begin. If it stays, it works.
     fn come_to_work<'s, 'e>(&'s self, scope: &'s Scope<'s, &'e ()>, number: usize, beginning: u64) {
         self.memory.begin_thread();
-        let mut second = None;
-        if self.provide_second(scope, &mut second)
-            && self.memory.has_connections(number)
-            && has_programs(self.rt, self.reserve, beginning)
-        {
+        if self.memory.has_connections(number) && has_programs(self.rt, self.reserve, beginning) {
             self.means.come_to_door(self.rt, true);
             self.came_up.give(self.rt, true);
-            self.work(scope, &mut second);
+            self.work(scope);
         } else {
             self.came_up.give(self.rt, false);
         }
-        if let Some(second) = second {
-            second.close(self.rt);
-        }
-    }
-
-    // Starts a second thread if a worker lacks one, and what clients send is passed on. Whether it has what it needs.
-    fn provide_second<'s, 'e>(
-        &'s self,
-        scope: &'s Scope<'s, &'e ()>,
-        second: &mut Option<Second<V::Upward>>,
-    ) -> bool {
-        if second.is_none() && self.memory.wants_second() {
-            *second = self.start_second(scope);
-            return second.is_some();
-        }
-        true
-    }
-
-    // Starts a second thread, if the system has one. If memory is limited it waits until the thread is there.
-    fn start_second<'s, 'e>(&'s self, scope: &'s Scope<'s, &'e ()>) -> Option<Second<V::Upward>> {
-        let his = Arc::new(self.alloc, Handover::new()).ok()?;
-        let sent = Arc::try_clone(&his).ok()?;
-        if !start_passing_up(scope, self.rt, self.server, &self.memory, his) {
-            return None;
-        }
-        if self.memory.is_limited() {
-            sent.wait(self.rt);
-        }
-        Some(sent)
     }
 
     // Lets in and serves one connection after another, until no more come. Then it waits until all are over: the system
     // may tell a program that the thread has ended which started it.
-    fn work<'s, 'e>(
-        &'s self,
-        scope: &'s Scope<'s, &'e ()>,
-        second: &mut Option<Second<V::Upward>>,
-    ) {
-        let mut pause = Pause::first();
+    fn work<'s, 'e>(&'s self, scope: &'s Scope<'s, &'e ()>) {
         for _ in self.rt.forever() {
             let Some(permit) = self.means.take(self.rt) else {
                 break;
             };
-            if !self.provide_second(scope, second) {
-                self.means.give_back(self.rt, permit);
-                self.means.pause(self.rt, pause.next());
-                continue;
-            }
-            pause = Pause::first();
             match self.arrivals.accept(self.rt) {
-                Some(Ok(came)) => self.serve(scope, permit, came, second),
+                Some(Ok(came)) => self.serve(scope, permit, came),
                 Some(Err(error)) => {
                     self.means.give_back(self.rt, permit);
                     self.arrivals.pause(self.rt, self.means, error);
@@ -263,13 +213,7 @@ where
     }
 
     // Lets a connection in that came, serves it up to the start of its program, and sees that somebody goes on with it.
-    fn serve<'s, 'e>(
-        &'s self,
-        scope: &'s Scope<'s, &'e ()>,
-        permit: Permit,
-        came: A::Came,
-        second: &mut Option<Second<V::Upward>>,
-    ) {
+    fn serve<'s, 'e>(&'s self, scope: &'s Scope<'s, &'e ()>, permit: Permit, came: A::Came) {
         let Some(work) = self.arrivals.admit(self.rt, self.means, &permit, came) else {
             self.means.give_back(self.rt, permit);
             return;
@@ -278,47 +222,28 @@ where
             Err(over) => self
                 .means
                 .ended(self.rt, permit, self.server.is_retired(&over)),
-            Ok((upward, alive)) => {
-                let his = second.take();
-                if let (Some(upward), Some(his)) = (upward, &his) {
-                    his.give(self.rt, upward);
-                }
-                *second = self.go_on(scope, permit, alive, his);
-            }
+            Ok(alive) => self.go_on(scope, permit, alive),
         }
         self.means.come_to_door(self.rt, false);
     }
 
-    // Goes on with a connection to its end. The second thread is free again then. With one of many a thread goes on, if
-    // there is one, which takes far less of a stack than a worker, and the second thread goes with it.
-    fn go_on<'s, 'e>(
-        &'s self,
-        scope: &'s Scope<'s, &'e ()>,
-        permit: Permit,
-        alive: V::Alive,
-        second: Option<Second<V::Upward>>,
-    ) -> Option<Second<V::Upward>> {
+    // Goes on with a connection to its end. With one of many a thread goes on, if there is one, which takes far less of a
+    // stack than a worker.
+    fn go_on<'s, 'e>(&'s self, scope: &'s Scope<'s, &'e ()>, permit: Permit, alive: V::Alive) {
         let (permit, is_one_of_many) = self.means.began(self.rt, permit);
+        let going_on = GoingOn {
+            rt: self.rt,
+            server: self.server,
+            means: self.means,
+            alive,
+            permit,
+        };
         // (a thread for it takes memory and a process, of which there is plenty)
         let has_plenty = !self.memory.is_limited() && !self.reserve.is_gone(self.rt);
         if is_one_of_many && has_plenty {
-            let going_on = GoingOn {
-                rt: self.rt,
-                server: self.server,
-                means: self.means,
-                alive,
-                permit,
-                second,
-            };
             start_going_on(scope, going_on);
-            return None;
+        } else {
+            drop(going_on);
         }
-        let over = self.server.finish(alive);
-        if let Some(his) = &second {
-            his.wait(self.rt);
-        }
-        self.means
-            .ended(self.rt, permit, self.server.is_retired(&over));
-        second
     }
 }

@@ -2,4 +2,3 @@ pub mod Asked
 pub mod Shares
 pub mod Told
 pub mod FoundLemmas
-pub mod LineWrappers

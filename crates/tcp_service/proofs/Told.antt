@@ -1,10 +1,9 @@
 -- What was told of the end of a child, or of a connection without one, is as it was.
-use Rattle.std.proofs.Common.{◌≡◌, ◌∙◌, ◌⊎◌, ap, refl, subst, sym, ℕ, ◌-◌, ◌^◌, Bool, true, Option, Some, Result, Ok, Err, inl, inr}
-use Rattle.std.specs.Prelude.{IfErr, IfOk, OnErr}
+use Rattle.std.proofs.Common.{◌≡◌, ◌∙◌, ◌⊎◌, ap, refl, subst, ℕ, ◌-◌, ◌^◌, Bool, true, Option, Some, Result, Ok, Err, inl, inr}
+use Rattle.std.specs.Prelude.{IfOk, OnErr}
 use mathlib.Core.Logic.{∥∥₁_map}
 use Rattle.child_jobs.specs.Plans.{PlanText}
 use Rattle.child_jobs.specs.Programs.{ProgramText}
-use Rattle.child_jobs.specs.Runs.{IsSameChild}
 use Rattle.rule_lookup.specs.Peers.{Client}
 use Rattle.child_jobs.specs.declared.outcome.DropCause.{DropCause}
 use Rattle.child_jobs.specs.declared.outcome.DropCause.TheVariants as cause
@@ -18,20 +17,20 @@ use Rattle.one_connection.specs.declared.serving.Served.{Served}
 use Rattle.rule_lookup.specs.declared.instr.Verdict.TheVariants.{Deny}
 use Rattle.child_jobs.specs.Ends.{LocalEnd}
 use Rattle.tcp_connections.specs.Rounds.{AllFail, EndsAs, FailsToWait, Kills, OneEnds, rounds}
-use Rattle.tcp_service.specs.Lives.{EndsWithReason, IsDecidedChild, IsEndOfChild, IsEndedByForce, IsOwnChild, OfSameChild, Refuses}
+use Rattle.tcp_service.specs.Lives.{EndsWithReason, IsDecidedChild, IsEndOfChild, IsOwnChild, Refuses}
 use Rattle.child_jobs.specs.Variables.{Variables}
 
 -- by how the waits for it went, and what was told of that to an agent of the same connection
 pub end_told : {P C J : Type 0} (waited : Result (P × Exit) C) (kills : Kills J) (fails : FailsToWait J) (ends : EndsAs J)
-    (by_force : Bool) (job : J) (serial own : ℕ) (last then : Option Event)
+    (job : J) (serial own : ℕ) (last then : Option Event)
     → own ≡ serial → last ≡ then
-    → IfOk waited (λ r. OneEnds kills fails ends (rounds by_force) job r.1.status)
-    → OnErr waited (AllFail kills fails (rounds by_force) job)
+    → IfOk waited (λ r. OneEnds kills fails ends rounds job r.1.status)
+    → OnErr waited (AllFail kills fails rounds job)
     → IfOk waited (λ r. then ≡ Some (Ended own r.1.status)) → OnErr waited (then ≡ Some (Retired own))
-    → IsEndOfChild kills fails ends by_force job last serial
-end_told (Ok r) kills fails ends by_force job serial own last then same is its none told untold =
+    → IsEndOfChild kills fails ends job last serial
+end_told (Ok r) kills fails ends job serial own last then same is its none told untold =
     inl (r.1.status, its, is ∙ (told ∙ ap (λ (n : ℕ). Some (Ended n r.1.status)) same))
-end_told (Err child) kills fails ends by_force job serial own last then same is none its untold told =
+end_told (Err child) kills fails ends job serial own last then same is none its untold told =
     inr (its, is ∙ (told ∙ ap (λ (n : ℕ). Some (Retired n)) same))
 
 -- ---- a connection was served, and no program of it runs
@@ -79,7 +78,7 @@ module _ {L : Type 0} {J : Type 0} {I O : Type 0} (finds : Opening → Type 0) (
   unserved_told (inr (inl (fault, is))) told denied refused drops = refusal_told fault is told refused
   unserved_told (inr (inr (why, is))) told denied refused drops = drop_told why is told drops
 
--- ---- a connection is over before it went on
+-- ---- a connection goes on
 
 -- what a connection found is something that it may have found
 pub own_is_decided : (found : Option Opening) (finds : Opening → Type 0) (honest sound : Bool) (peer : Client) (local : LocalEnd) (plan : PlanText)
@@ -97,31 +96,3 @@ own_is_decided found finds honest sound peer local plan program environment own 
       };
       planned = child.planned;
     })
-
--- a job of the same program, with the same variables
-same_such : {J : Type 0} (is_such : ProgramText → Variables → Type 0) (program : J → ProgramText) (environment : J → Variables) (first job : J)
-    → IsSameChild program environment first job → is_such (program first) (environment first) → is_such (program job) (environment job)
-same_such is_such program environment first job same its =
-    subst (λ (p : ProgramText). is_such p (environment job)) (sym same.program)
-    (subst (λ (e : Variables). is_such (program first) e) (sym same.environment) its)
-
--- the program that was started was ended by force, if the connection is over
-pub forced_if : {R O J : Type 0} (unserved : O → Type 0) (is_such : ProgramText → Variables → Type 0) (last : O → Option Event)
-    (kills : Kills J) (fails : FailsToWait J) (ends : EndsAs J) (program : J → ProgramText) (environment : J → Variables) (first : J)
-    (serial : ℕ) → is_such (program first) (environment first) → (r : Result R O)
-    → IfErr r (λ over. OfSameChild program environment first (λ job. IsEndOfChild kills fails ends true job (last over) serial))
-    → IfErr r (λ over. unserved over ⊎ IsEndedByForce is_such program environment kills fails ends serial (last over))
-forced_if unserved is_such last kills fails ends program environment first serial its (Ok begun) ended = tt
-forced_if unserved is_such last kills fails ends program environment first serial its (Err over) ended = inr (record {
-  job = ended.job;
-  such = same_such is_such program environment first ended.job ended.same its;
-  ended = ended.so;
-})
-
--- and runs, if it goes on
-pub runs_if : {R O J : Type 0} (is_such : ProgramText → Variables → Type 0) (job_in : R → J) (program : J → ProgramText)
-    (environment : J → Variables) (first : J) → is_such (program first) (environment first) → (r : Result R O)
-    → IfOk r (λ begun. IsSameChild program environment first (job_in begun))
-    → IfOk r (λ begun. is_such (program (job_in begun)) (environment (job_in begun)))
-runs_if is_such job_in program environment first its (Ok begun) same = same_such is_such program environment first (job_in begun) same its
-runs_if is_such job_in program environment first its (Err over) same = tt

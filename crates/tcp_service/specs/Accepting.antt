@@ -5,14 +5,12 @@ use Rattle.rule_lookup.specs.Peers.{Client}
 use Rattle.tcp_connections.specs.Names.{client_at, local_at}
 use Rattle.tcp_connections.specs.declared.accepting.Accepted.{Accepted}
 use Rattle.tcp_connections.specs.declared.names.HostNames.{HostNames}
-use Rattle.tcp_service.specs.declared.pumping.ClientStreams.{ClientStreams}
 
--- the client and the server's end are those of the connection that was accepted, with their names, and so are the streams
-pub record IsAccepted {S : Type 0} (names : HostNames) (peer : Client) (local : LocalEnd) (streams : ClientStreams S)
+-- the client and the server's end are those of the connection that was accepted, with their names, and so are the two
+-- holders of its stream
+pub record IsAccepted {S : Type 0} (names : HostNames) (peer : Client) (local : LocalEnd) (writer stream : S)
     (accepted : Accepted S) : Type 0 where
   pub client : peer ≡ client_at names accepted.ip accepted.port
   pub end : local ≡ local_at names accepted.local.ip accepted.local.port
-  pub reads : streams.reader ≡ accepted.reader
-  pub writes : streams.writer ≡ accepted.writer
-  pub shuts : streams.shut ≡ accepted.shut
-  pub port : streams.port ≡ accepted.port
+  pub writes : writer ≡ accepted.writer
+  pub carries : stream ≡ accepted.stream

@@ -2,7 +2,6 @@
 use Rattle.std.specs.Prelude.{◌≡◌, ◌⊎◌, ◌-◌, ◌^◌, ℕ, Bool, true, false, Option, Some, Result, IfOk, option_and_then}
 use Rattle.child_jobs.specs.Plans.{PlanText}
 use Rattle.child_jobs.specs.Programs.{ProgramText}
-use Rattle.child_jobs.specs.Runs.{IsSameChild}
 use Rattle.rule_lookup.specs.Peers.{Client}
 use Rattle.child_jobs.specs.declared.outcome.DropCause.TheVariants as cause
 use Rattle.child_jobs.specs.declared.outcome.NotStarted.{NotStarted}
@@ -34,18 +33,10 @@ retires other = false
 
 -- the end of a child was told for the connection with a serial: how it ended, by how the rounds of waiting for it went,
 -- or that all rounds failed
-abbrev pub IsEndOfChild : {J : Type 0} → Kills J → FailsToWait J → EndsAs J → (by_force : Bool) → J → Option Event
-    → (serial : ℕ) → Type 0
-IsEndOfChild kills fails ends by_force job event serial =
-    ((status : Status) × OneEnds kills fails ends (rounds by_force) job status × (event ≡ Some (Ended serial status)))
-    ⊎ (AllFail kills fails (rounds by_force) job × (event ≡ Some (Retired serial)))
-
--- this is so of a job of the same program with the same variables
-pub record OfSameChild {J : Type 0} (program_of : J → ProgramText) (environment_of : J → Variables) (first : J)
-    (is_so : J → Type 0) : Type 0 where
-  pub job : J
-  pub same : IsSameChild program_of environment_of first job
-  pub so : is_so job
+abbrev pub IsEndOfChild : {J : Type 0} → Kills J → FailsToWait J → EndsAs J → J → Option Event → (serial : ℕ) → Type 0
+IsEndOfChild kills fails ends job event serial =
+    ((status : Status) × OneEnds kills fails ends rounds job status × (event ≡ Some (Ended serial status)))
+    ⊎ (AllFail kills fails rounds job × (event ≡ Some (Retired serial)))
 
 -- a program is the one of a decision to allow, by something that may be found: the plan's, with the variables that this
 -- decision gives
@@ -89,11 +80,3 @@ pub record EndsWithReason (finds : Opening → Type 0) (honest sound : Bool) (pe
   pub event : Event
   pub told : last ≡ Some event
   pub reason : HasReason (WasFound found finds) honest sound peer local plan refuses serial event
-
--- a job of such a program was killed before it was waited for, and what came of that was told
-pub record IsEndedByForce {J : Type 0} (is_such : ProgramText → Variables → Type 0) (program_of : J → ProgramText)
-    (environment_of : J → Variables) (kills : Kills J) (fails : FailsToWait J) (ends : EndsAs J) (serial : ℕ)
-    (last : Option Event) : Type 0 where
-  pub job : J
-  pub such : is_such (program_of job) (environment_of job)
-  pub ended : IsEndOfChild kills fails ends true job last serial

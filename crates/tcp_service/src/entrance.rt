@@ -11,7 +11,6 @@ ghost use Rattle.tcp_service.specs.Lives.{AdmitsOwn};
 
 use crate::host::{AgentGround, Host};
 use crate::life::Admitted;
-use crate::pumping::ClientStreams;
 use crate::server::{AgentContext, Server};
 use child_jobs::{DropCause, Local, Place};
 use rule_lookup::Peer;
@@ -85,7 +84,7 @@ where
     type Work = Admitted<'a, H>;
 
     ghost is_its = { λ came work. IfSome came
-        (IsAccepted work.server.now.service.now.names work.peer work.local work.streams) };
+        (IsAccepted work.server.now.service.now.names work.peer work.local work.writer work.stream) };
 
     ghost count = { H.Callers.admissions };
 
@@ -110,7 +109,8 @@ where
                 place,
                 peer,
                 local,
-                streams: ClientStreams::of(accepted),
+                writer: accepted.writer,
+                stream: accepted.stream,
                 made: Snapshot::of(&made),
             }),
             Err(refused) => {

@@ -11,7 +11,7 @@ use shared_site::Ground;
 use std::alloc::{AllocError, Global};
 use std::io::{Read, Write};
 use std::sync::Wait;
-use tcp_connections::{Follow, Shut, Starter};
+use tcp_connections::Starter;
 
 /// What the agents of a server's connections stand on: the runtime, the rules and the log, beside the ground of their
 /// site. It is a name for these types together, and has no values.
@@ -25,7 +25,7 @@ pub trait AgentGround: Ground {
     /// Where the rules stand that each connection opens for itself.
     type Rules: Rules<Self::Places, Self::File, Handle = Self::Handle>;
 
-    /// What takes the lines of the log, and what is recorded.
+    /// What takes the lines of the log.
     type Lines: Write;
 }
 
@@ -38,8 +38,8 @@ pub trait AgentGround: Ground {
 /// Which of these things threads share (`Sync`) and give one another (`Send`) is said where threads are started, and
 /// not here: the check does not take a call in a method of a trait where what is called says so in its bounds.
 pub trait Host: AgentGround {
-    /// One of those who hold the stream of a connection.
-    type Holder: Read + Write + Follow<Self::Output> + Shut + Drop;
+    /// One of those who hold the stream of a connection, which is closed once nobody does.
+    type Holder: Write + Drop;
 
     /// What starts the programs of connections.
     type Starter: Starter<Self::Holder, Job = Self::Job>;
@@ -47,11 +47,11 @@ pub trait Host: AgentGround {
     /// The program of a connection while it runs.
     type Job: Job<Input = Self::Input, Output = Self::Output>;
 
-    /// The end of the pipe that the program of a connection reads.
-    type Input: Write + Drop;
+    /// The end of the pipe that the program of a connection reads, if the job can give one.
+    type Input: Write;
 
     /// The end of the pipe that it writes.
-    type Output: Read + Drop;
+    type Output: Read;
 }
 
 /// Where the rules stand that each connection opens for itself.

@@ -5,19 +5,17 @@
 //! types are the ground of the site, the runtime, the rules, the log, and the streams and programs of connections. An
 //! agent stands on the first four (`AgentGround`). The life of a connection is one value after another: `Admitted`,
 //! `Started`, `Alive`, `Over`. None of the first three can be let go, and an end can't be told twice. `LoggedAgent` is
-//! the agent over which `serve_one` runs. Tested only: bytes pass through the two pumps of their connection, or are
-//! dropped once its program reads no more, and no event comes out of turn.
+//! the agent over which `serve_one` runs. What passes between a client and its program is no part of it: a pumped
+//! connection stands behind the job of its program. Tested only: no event comes out of turn.
 #![tactic(auto)]
 
 mod agent;
 pub mod entrance;
 pub mod host;
 pub mod life;
-pub mod pumping;
 mod reasons;
 pub mod server;
 mod serving;
-mod wrappers;
 
 pub use entrance::{Entrance, Seen};
 pub use host::{AgentGround, Host, Rules, RulesHandle};

@@ -5,11 +5,11 @@ ghost use Rattle.tcp_service.specs.Lives.{MayStartEach};
 use crate::host::{AgentGround, Host};
 use child_jobs::Plan;
 use server_log::Log;
-use server_words::{ConnectionLimits, LineWrapperName, Mode};
+use server_words::ConnectionLimits;
 use shared_site::{CallerOf, Site};
 use std::alloc::Global;
 use std::sync::Mutex;
-use tcp_connections::{HostNames, Patience, Reserve, Supply};
+use tcp_connections::{HostNames, Reserve, Supply};
 
 /// What the agents of all connections share: the site with the caller that tells it their events, the plan, the rules
 /// and the log.
@@ -31,29 +31,19 @@ pub struct AgentContext<'a, G: AgentGround> {
 pub struct Server<'a, H: Host> {
     pub context: AgentContext<'a, H>,
     pub starter: &'a H::Starter,
-    pub service: &'a Service<'a>,
+    pub service: &'a Service,
     pub ghost may: { MayStartEach (IsFoundFor H.Places.met (H.Rules.gives context.rules.now) H.Handle.opened)
         H.File.honest H.File.sound context.plan.now (H.Starter.may starter.now) },
 }
 
 /// What a server does for all of its connections.
 #[derive(Drop)]
-pub struct Service<'a> {
+pub struct Service {
     /// How many connections there may be at once, and how many are let in before the server ends. Without such a number
     /// it does not end by itself.
     pub limits: ConnectionLimits,
     /// How the ends of a connection get their names.
     pub names: HostNames,
-    /// Whether programs hold their connections themselves (`-s`), or the server passes the bytes on (`-S`).
-    pub mode: Mode,
-    /// How long a client whose connection is pumped may take nothing of what its program left for it.
-    pub patience: Patience,
-    /// Where bytes are passed on: whether what goes both ways is recorded (`-w recordio`).
-    pub recording: bool,
-    /// The line wrappers for what a client sends, the first one first (`-w`).
-    pub input: &'a [LineWrapperName],
-    /// The same for what it is sent.
-    pub output: &'a [LineWrapperName],
     /// What the system gives it for its connections.
     pub supply: Supply,
     /// The process that is kept in reserve for their programs.

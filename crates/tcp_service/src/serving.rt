@@ -1,19 +1,15 @@
 //! How a server's connections are served: by the calls that `Workers` makes for each.
-ghost use Rattle.std.specs.Prelude.{◌≡◌, ◌⊎◌, IfOk, IfErr, false};
+ghost use Rattle.std.specs.Prelude.{◌≡◌, IfOk, IfErr};
 ghost use Rattle.child_jobs.specs.Runs.{job_of};
 ghost use Rattle.tcp_service.specs.Agents.{IsFoundFor, asked};
-ghost use Rattle.tcp_service.specs.Lives.{EndsWithReason, IsDecidedChild, IsEndOfChild, IsEndedByForce};
+ghost use Rattle.tcp_service.specs.Lives.{EndsWithReason, IsDecidedChild, IsEndOfChild};
 
 use crate::entrance::Entrance;
 use crate::host::Host;
-use crate::life::{Admitted, Alive, Beginning, Over, Started};
-use crate::pumping::{Upward, pump_up};
+use crate::life::{Admitted, Alive, Over, Started};
 use crate::server::Server;
-use crate::wrappers::chains_of;
-use byte_streams::{NoTap, Way};
-use child_jobs::DropCause;
 use std::snapshot::Snapshot;
-use tcp_connections::Serving;
+use tcp_connections::{Serving, wait_in_rounds};
 
 impl<'a, H> Serving for Server<'a, H>
 where
@@ -36,8 +32,6 @@ where
 
     type Work = Admitted<'a, H>;
 
-    type Upward = Upward<H::Holder, H::Input>;
-
     type Alive = Alive<'a, H>;
 
     type Over = Over;
@@ -47,52 +41,44 @@ where
     /// A connection is served, and goes on if its program was started.
     ///
     /// # Errors
-    /// It is over: it was denied or given up, its program could not be started, or its program had no pipe ends and was
-    /// killed.
-    fn begin(&self, admitted: Admitted<'a, H>) -> Result<Beginning<'a, H>, Over>
-        ensures own { IfOk result (λ begun. begun.1.serial ≡ admitted.entry.serial) }
-        ensures child { IfOk result (λ begun. IsDecidedChild
+    /// It is over: it was denied or given up, or its program could not be started.
+    fn begin(&self, admitted: Admitted<'a, H>) -> Result<Alive<'a, H>, Over>
+        ensures own { IfOk result (λ alive. alive.serial ≡ admitted.entry.serial) }
+        ensures child { IfOk result (λ alive. IsDecidedChild
             (IsFoundFor H.Places.met (H.Rules.gives admitted.entry.server.now.context.rules.now) H.Handle.opened
             admitted.entry.serial)
             H.File.honest H.File.sound admitted.entry.peer admitted.entry.local
             admitted.entry.server.now.context.plan.now
-            (H.Job.program (job_of begun.1.running)) (H.Job.environment (job_of begun.1.running))) }
+            (H.Job.program (job_of alive.running)) (H.Job.environment (job_of alive.running))) }
         ensures over { IfErr result (λ over. over.serial ≡ admitted.entry.serial) }
         ensures reason { IfErr result (λ over. EndsWithReason
             (IsFoundFor H.Places.met (H.Rules.gives admitted.entry.server.now.context.rules.now) H.Handle.opened
             admitted.entry.serial)
             H.File.honest H.File.sound admitted.entry.peer admitted.entry.local
             admitted.entry.server.now.context.plan.now
-            (H.Starter.refuses admitted.entry.server.now.starter.now admitted.entry.streams.shut) admitted.entry.serial
-            (asked over.last.value)
-            ⊎ IsEndedByForce (IsDecidedChild
-            (IsFoundFor H.Places.met (H.Rules.gives admitted.entry.server.now.context.rules.now) H.Handle.opened
-            admitted.entry.serial)
-            H.File.honest H.File.sound admitted.entry.peer admitted.entry.local
-            admitted.entry.server.now.context.plan.now)
-            H.Job.program H.Job.environment H.Job.killed H.Job.refused_wait H.Job.ended admitted.entry.serial
+            (H.Starter.refuses admitted.entry.server.now.starter.now admitted.entry.stream) admitted.entry.serial
             (asked over.last.value)) }
     {
-        let Ok(chains) = chains_of(admitted.server.context.alloc, admitted.server.service) else {
-            return Err(admitted.give_up(DropCause::Memory));
-        };
         let Admitted {
             server,
             serial,
             place,
             peer,
             local,
-            mut streams,
+            mut writer,
+            stream,
             made: _,
         } = admitted;
-        match server.serve(serial, place, &peer, &local, &mut streams) {
+        let served = server.serve(serial, place, &peer, &local, &mut writer, &stream);
+        drop(writer);
+        drop(stream);
+        match served {
             Ok((running, found)) => {
                 let alive = Alive {
                     server,
                     serial,
                     running,
                     local,
-                    downward: None,
                 };
                 let kept = Snapshot::of(&peer);
                 drop(peer);
@@ -101,11 +87,9 @@ where
                     peer: kept,
                     found,
                 };
-                started.pass_on(streams, chains)
+                Ok(started.go_on())
             }
             Err(over) => {
-                drop(chains);
-                streams.end();
                 drop(local);
                 drop(peer);
                 Err(over)
@@ -113,23 +97,10 @@ where
         }
     }
 
-    /// Passes on what the client sends, until the client ends its stream, or the program reads no more. Then it reads on,
-    /// up to the end of the connection or to so many bytes.
-    fn pass_up(&self, upward: Upward<H::Holder, H::Input>) {
-        let context = &self.context;
-        if self.service.recording {
-            let tap = context.recorder(upward.port, Way::Input);
-            pump_up(context.alloc, upward, tap);
-        } else {
-            pump_up(context.alloc, upward, NoTap);
-        }
-    }
-
-    /// What the program of a connection says is passed on to the end, if the program does not hold the connection
-    /// itself. Then the program is waited for, and the connection ends.
+    /// The program of a connection is waited for in rounds, and its end is told.
     fn finish(&self, alive: Alive<'a, H>) -> Over
         ensures own { result.serial ≡ alive.entry.serial }
-        ensures ended { IsEndOfChild H.Job.killed H.Job.refused_wait H.Job.ended false (job_of alive.entry.running)
+        ensures ended { IsEndOfChild H.Job.killed H.Job.refused_wait H.Job.ended (job_of alive.entry.running)
             (asked result.last.value) alive.entry.serial }
     {
         let Alive {
@@ -137,13 +108,14 @@ where
             serial,
             running,
             local,
-            downward,
         } = alive;
-        let shut = match downward {
-            Some(downward) => Some(server.pass_down(downward)),
-            None => None,
-        };
-        server.see_out(serial, running, &local, false, shut)
+        let ended = wait_in_rounds(running);
+        let is_retired = ended.is_err();
+        let mut agent = server.context.agent(serial, &local);
+        agent.tell_end(ended);
+        let over = Over::of(&agent, serial, is_retired);
+        drop(agent);
+        over
     }
 
     fn is_retired(&self, over: &Over) -> bool {

@@ -35,8 +35,7 @@ use tool::run_tcpserver;
 
 fn main(rt: HostRuntime) -> ExitCode {
     let serve = |voice: Voice, words: &[Vec<u8>], causes: &mut Vec<u8>| {
-        let errors = Patient::new(&rt, rt.stderr());
-        match run_tcpserver(&rt, errors, words, voice, causes) {
+        match run_tcpserver(&rt, rt.stderr(), words, voice, causes) {
             Ok(_finished) => Ok(()),
             Err(fault) => Err(fault),
         }

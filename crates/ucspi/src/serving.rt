@@ -61,11 +61,10 @@ pub(crate) struct Closed<H: Host> {
 /// closes the site.
 ///
 /// Of the two callers of the site, with a part each of `parts`, one lets connections in and makes no other events; the
-/// other makes all others. `plan` is what each connection is served by. `starter` starts programs that have what the
-/// service's mode says as their standard input and output; it is asked for nothing but the plan's program, with the
-/// variables of a decision to allow. Each connection opens `rules` for itself, which are the yard's. Once no more
-/// connections are let in, the acceptor is dropped. By faults of accepting the server ends only if the last hundred
-/// answers of the acceptor were errors, or if there was too little for one connection.
+/// other makes all others. `plan` is what each connection is served by. `starter` is asked for nothing but the plan's
+/// program, with the variables of a decision to allow. Each connection opens `rules` for itself, which are the yard's.
+/// Once no more connections are let in, the acceptor is dropped. By faults of accepting the server ends only if the last
+/// hundred answers of the acceptor were errors, or if there was too little for one connection.
 pub(crate) fn serve<'a, H, A>(
     rt: &'a H::Runtime,
     alloc: Global,
@@ -75,7 +74,7 @@ pub(crate) fn serve<'a, H, A>(
     rules: &'a H::Rules,
     starter: &'a H::Starter,
     plan: &'a Plan,
-    service: &'a Service<'a>,
+    service: &'a Service,
     log: &'a Mutex<Log<H::Lines>>,
 ) -> Closed<H>
 where

@@ -4,24 +4,24 @@ ghost use Rattle.server_parts.specs.declared.fault.ServerFault.TheVariants.{Cann
 
 use crate::no_folder::NoFolder;
 use crate::rules::{FolderHandle, FolderRules};
+use byte_streams::Patient;
 use dir_disk::{NoWait, SystemDisk};
 use server_parts::opening::listen;
-use server_parts::programs::{ProgramInput, ServiceJob};
-use server_parts::sockets::Holder;
-use server_parts::{ProgramStarter, RulesOnDisk, ServerFailure};
+use server_parts::{RulesOnDisk, ServerFailure};
 use server_yard::Assumptions;
 use shared_site::{Callers, Ground};
 use std::fs::{File, Files};
-use std::io::{Read, Write};
+use std::io::{Empty, Read, Sink, Write};
 use std::marker::PhantomData;
 use std::net::{Net, OpenListener, TcpStream};
 use std::os::fd::AsRawFd;
-use std::process::{ChildStdin, ChildStdout, OpenProcess, Processes};
+use std::process::{ChildStdin, OpenProcess, Processes};
 use std::rt::Env;
 use std::sync::{Mutex, Wait};
 use std::thread::Threads;
 use std::time::Clock;
 use tcp_service::{AgentGround, Host};
+use tcp_streams::{Holder, ProgramStarter, ServiceJob};
 
 /// What the tool has of the system. It is a name for these types together, and has no values.
 pub(crate) trait System {
@@ -57,8 +57,11 @@ pub(crate) trait System {
     /// The end of the pipe to which it writes its errors.
     type ProcessErrors: Read + Send + Drop;
 
+    /// What takes what is recorded of connections.
+    type Errors: Write + Copy + Send + Sync + Drop;
+
     /// What takes the lines of the log.
-    type Errors: Write + Send + Drop;
+    type Lines: Write + Send + Drop;
 
     /// Whether a socket listens at this address and port.
     ghost listens: { Self.Listener → List ℕ → ℕ → Type 0 };
@@ -75,7 +78,7 @@ pub(crate) trait System {
 /// The system of a runtime, with the stream that takes the lines of the log.
 pub(crate) struct SystemOf<'a, R, E>(PhantomData<(&'a R, Mutex<E>)>);
 
-impl<R, E> System for SystemOf<'_, R, E>
+impl<'a, R, E> System for SystemOf<'a, R, E>
 where
     R: Env + Print + AllocGlobal + Files<File = File> + Processes + Threads + Wait + Clock + Sync,
     R: Net<Stream = TcpStream>,
@@ -84,7 +87,7 @@ where
     R::Started: OpenProcess<Stdin = ChildStdin> + Send,
     <R::Started as OpenProcess>::Stdout: Send,
     <R::Started as OpenProcess>::Stderr: Send,
-    E: Write + Send + Drop,
+    E: Write + Copy + Send + Sync + Drop,
 {
     type Runtime = R;
 
@@ -99,6 +102,8 @@ where
     type ProcessErrors = <R::Started as OpenProcess>::Stderr;
 
     type Errors = E;
+
+    type Lines = Patient<'a, R, E>;
 
     ghost listens = { λ _ _ _. ⊤ };
 
@@ -131,18 +136,18 @@ impl<'a, P: System, L: Assumptions + Send + Sync, N: Callers + Send + Sync> Agen
 
     type Rules = FolderRules<'a, L, P::Runtime>;
 
-    type Lines = P::Errors;
+    type Lines = P::Lines;
 }
 
 impl<'a, P: System, L: Assumptions + Send + Sync, N: Callers + Send + Sync> Host
     for OnSystem<'a, P, L, N> {
     type Holder = Holder<'a, P::Runtime>;
 
-    type Starter = ProgramStarter<'a, P::Runtime>;
+    type Starter = ProgramStarter<'a, P::Runtime, P::Errors>;
 
-    type Job = ServiceJob<'a, P::Runtime>;
+    type Job = ServiceJob<'a, P::Runtime, P::Errors>;
 
-    type Input = ProgramInput<'a, P::Runtime>;
+    type Input = Sink;
 
-    type Output = ChildStdout;
+    type Output = Empty;
 }

@@ -1,7 +1,7 @@
 //! The tool: its words, what it opens, and the server.
 ghost use Rattle.std.specs.Prelude.{◌≡◌, ◌⊎◌, false, true, map, option_copied, IfOk, IfErr};
 ghost use Rattle.fault_hints.specs.Voices.{mode_by_name};
-ghost use Rattle.server_parts.specs.Asked.{FailsNames, starts_in};
+ghost use Rattle.server_parts.specs.Asked.{FailsNames};
 ghost use Rattle.server_parts.specs.Services.{AreRulesOf};
 ghost use Rattle.server_parts.specs.declared.fault.ServerFault.TheVariants.{CannotListen, OutOfMemory, WriteFault};
 ghost use Rattle.ucspi.specs.Asked.{AcceptsAsAsked, AreAsked, AreAskedLimits, IsAskedLog};
@@ -11,12 +11,14 @@ ghost use Rattle.server_words.specs.Plans.{plan_of as plan_by_words};
 ghost use Rattle.server_yard.specs.Kept.{rules_of};
 ghost use Rattle.server_yard.specs.Yards.{name_of, yard_books, yard_rules, yard_server};
 ghost use Rattle.stream_tools.specs.Programs.{text_in, texts_of};
+ghost use Rattle.tcp_streams.specs.Asked.{IsAskedPassing, passing_of};
 
 use crate::ends::{Finished, end_of};
 use crate::no_folder::NoFolder;
 use crate::rules::FolderRules;
 use crate::serving::{CALLERS, serve};
 use crate::system::{OnSystem, System, SystemOf};
+use byte_streams::Patient;
 use child_jobs::Plan;
 use dir_calls::Name;
 use fault_hints::{Voice, append_help};
@@ -27,10 +29,7 @@ use server_parts::causes::tell_failure;
 use server_parts::limits::supply_for;
 use server_parts::opening::{find_rules, names_of, plan_of, print_port, stand_in};
 use server_parts::signals::forgets_programs;
-use server_parts::{
-    ProgramStarter, RulesOnDisk, RulesPath, ServerFailure, ServerFault, SocketAcceptor,
-    TcpserverFault,
-};
+use server_parts::{RulesOnDisk, RulesPath, ServerFailure, ServerFault, TcpserverFault};
 use server_words::{Level, ServerWords, read_server_words};
 use server_yard::{Assumptions, Yard};
 use shared_site::Callers;
@@ -44,22 +43,16 @@ use std::rt::Env;
 use std::sync::ledger::Blank;
 use std::sync::{Mutex, Wait};
 use std::thread::Threads;
-use std::time::{Clock, Duration};
+use std::time::Clock;
 use stream_tools::SearchPath;
 use stream_tools::started::{SystemGiven, texts_of};
-use tcp_connections::{Patience, Reserve};
+use tcp_connections::Reserve;
 use tcp_service::Service;
-
-/// For so many seconds in succession a client whose connection is pumped may take nothing of what its program left for
-/// it.
-const IDLE: u64 = 60;
-
-/// And for so many in all.
-const ALL: u64 = 600;
+use tcp_streams::{Passing, ProgramStarter, SocketAcceptor};
 
 /// Runs `tcpserver` with these words, over the system's sockets, files and programs; `errors` takes the lines of its
-/// log. Without `-s` and `-S` connections are handed over or pumped as `voice` says. It returns once as many
-/// connections were served as it was to serve, and all of them are over.
+/// log, and what is recorded. Without `-s` and `-S` connections are handed over or pumped as `voice` says. It returns
+/// once as many connections were served as it was to serve, and all of them are over.
 ///
 /// # Errors
 /// Words with a fault run nothing, and their first fault is told. Words without one are blamed for nothing but want of
@@ -80,29 +73,31 @@ where
     R::Started: OpenProcess<Stdin = ChildStdin> + Send,
     <R::Started as OpenProcess>::Stdout: Send,
     <R::Started as OpenProcess>::Stderr: Send,
-    E: Write + Send + Drop,
+    E: Write + Copy + Send + Sync + Drop,
     ensures answers { AnswersWords (plan_by_words (mode_by_name voice) (map text_in (texts_of words.now))) result }
 {
     let alloc = rt.alloc();
     let _held = [stand_in(rt), stand_in(rt), stand_in(rt)];
     let texts = texts_of(alloc, words)?;
-    run_words::<SystemOf<'_, R, E>>(rt, errors, texts.as_slice(), voice, causes)
+    let lines = Patient::new(rt, errors);
+    run_words::<SystemOf<'_, R, E>>(rt, (lines, errors), texts.as_slice(), voice, causes)
 }
 
 // What a server has but for its site and its socket.
 #[derive(Drop)]
-struct ServerParts<'a, E> {
+struct ServerParts<'a, W> {
     plan: Plan,
     search: SearchPath,
-    service: Service<'a>,
-    log: Mutex<Log<E>>,
+    service: Service,
+    passing: Passing<'a>,
+    log: Mutex<Log<W>>,
 }
 
 // Runs the tool with these words. Here and below, what a function owns it lends to the calls that follow: they have the
 // many ways out.
 fn run_words<P: System + Send + Sync>(
     rt: &P::Runtime,
-    errors: P::Errors,
+    streams: (P::Lines, P::Errors),
     words: &[String],
     voice: Voice,
     causes: &mut Vec<u8>,
@@ -111,7 +106,7 @@ fn run_words<P: System + Send + Sync>(
 {
     match read_server_words(rt.alloc(), words, voice.mode()) {
         Ok(words) => {
-            let ended = match run_server::<P>(rt, errors, &words, voice) {
+            let ended = match run_server::<P>(rt, streams, &words, voice) {
                 Ok(finished) => Ok(finished),
                 Err(failure) => {
                     tell_failure(rt.alloc(), voice, &words, failure, causes);
@@ -122,7 +117,7 @@ fn run_words<P: System + Send + Sync>(
             ended
         }
         Err(fault) => {
-            drop(errors);
+            drop(streams);
             let _ = append_help(causes, rt.alloc(), voice, words, fault);
             Err(TcpserverFault::Words(fault))
         }
@@ -132,25 +127,25 @@ fn run_words<P: System + Send + Sync>(
 // Runs the tool as its words ask for.
 fn run_server<P: System + Send + Sync>(
     rt: &P::Runtime,
-    errors: P::Errors,
+    (lines, errors): (P::Lines, P::Errors),
     words: &ServerWords<'_>,
     voice: Voice,
 ) -> Result<Finished, ServerFailure> {
     if forgets_programs(rt) {
         return Err(ServerFailure::from(ServerFault::CannotWait));
     }
-    let server = parts_of(rt, errors, words, voice)?;
-    open_and_run::<P>(rt, &server, words)
+    let server = parts_of(rt, lines, words, voice)?;
+    open_and_run::<P>(rt, errors, &server, words)
 }
 
 // What a server has by its words, but for its site and its socket.
-fn parts_of<'a, R: Env + AllocGlobal + Files, E: Write + Drop>(
+fn parts_of<'a, R: Env + AllocGlobal + Files, W: Write + Drop>(
     rt: &R,
-    errors: E,
+    lines: W,
     words: &'a ServerWords<'_>,
     voice: Voice,
-) -> Result<ServerParts<'a, E>, ServerFailure>
-    ensures asked { IfOk result (λ server. AreAsked words.now server.plan server.service) }
+) -> Result<ServerParts<'a, W>, ServerFailure>
+    ensures asked { IfOk result (λ server. AreAsked words.now server.plan server.service server.passing) }
     ensures refused { IfErr result (λ failure. FailsNames words.now.hosts failure.fault) }
 {
     let alloc = rt.alloc();
@@ -165,40 +160,40 @@ fn parts_of<'a, R: Env + AllocGlobal + Files, E: Write + Drop>(
         service: Service {
             limits,
             names,
-            mode,
-            patience: Patience {
-                idle: Duration::from_secs(IDLE),
-                all: Duration::from_secs(ALL),
-            },
-            recording: wrapping.records(),
-            input: wrapping.input(),
-            output: wrapping.output(),
             supply,
             reserve: Reserve::new(),
         },
-        log: Mutex::new(log_of(alloc, errors, words, voice)),
+        passing: Passing {
+            mode,
+            recording: wrapping.records(),
+            input: wrapping.input(),
+            output: wrapping.output(),
+        },
+        log: Mutex::new(log_of(alloc, lines, words, voice)),
     })
 }
 
 // The log of a server.
-fn log_of<W: Write>(alloc: Global, errors: W, words: &ServerWords<'_>, voice: Voice) -> Log<W>
+fn log_of<W: Write>(alloc: Global, lines: W, words: &ServerWords<'_>, voice: Voice) -> Log<W>
     ensures asked { IsAskedLog words.now voice result }
 {
     let (level, limit) = (words.level(), words.limits().connections);
-    Log::new(alloc, errors, level, voice, limit)
+    Log::new(alloc, lines, level, voice, limit)
 }
 
 // Looks for the folder of the rules, opens the socket, and runs the server on them.
 fn open_and_run<'a, P: System + Send + Sync>(
     rt: &'a P::Runtime,
-    server: &'a ServerParts<'_, P::Errors>,
+    errors: P::Errors,
+    server: &'a ServerParts<'_, P::Lines>,
     words: &'a ServerWords<'_>,
 ) -> Result<Finished, ServerFailure>
-    requires asked { AreAsked words.now server.now.plan server.now.service }
+    requires asked { AreAsked words.now server.now.plan server.now.service server.now.passing }
 {
     let (rules, name) = rules_and_name(rt.alloc(), rt, words)?;
     let acceptor = open_socket::<P>(rt, &server.log, words)?;
-    let starter = ProgramStarter::new(rt, words.mode(), &server.search, &server.service.reserve);
+    let (search, reserve) = (&server.search, &server.service.reserve);
+    let starter = ProgramStarter::new(rt, search, reserve, server.passing, errors);
     let (places, parts) = (Blank::new(words.limits().connections), Blank::new(CALLERS));
     let name = name.as_ref();
     run_site::<Brand, Brand, P>(
@@ -228,7 +223,7 @@ fn rules_and_name<R: Files>(
 // words ask for that.
 fn open_socket<'a, P: System>(
     rt: &'a P::Runtime,
-    log: &Mutex<Log<P::Errors>>,
+    log: &Mutex<Log<P::Lines>>,
     words: &ServerWords<'_>,
 ) -> Result<SocketAcceptor<'a, P::Runtime, P::Listener>, ServerFailure>
     ensures asked { IfOk result (AcceptsAsAsked P.listens words.now) }
@@ -242,8 +237,8 @@ fn open_socket<'a, P: System>(
     if let Ok(SocketAddr::V4(end)) = end {
         let _ = log.lock(rt).listening(end.ip().octets(), end.port());
     }
-    let (mode, at_once) = (words.mode(), words.sends_at_once());
-    Ok(SocketAcceptor::new(rt, rt.alloc(), mode, listener, at_once))
+    let at_once = words.sends_at_once();
+    Ok(SocketAcceptor::new(rt, rt.alloc(), listener, at_once))
 }
 
 // Tells a person where rules are by names that clients don't have.
@@ -263,11 +258,11 @@ fn tell_names<R: Files<File = File> + Wait, E: Write + Drop>(
 // The server over a yard of its own, which serves by what was made of the words.
 fn run_site<'a, L: Assumptions + Send + Sync, N: Callers + Send + Sync, P: System + Send + Sync>(
     rt: &'a P::Runtime,
-    server: &'a ServerParts<'_, P::Errors>,
+    server: &'a ServerParts<'_, P::Lines>,
     acceptor: SocketAcceptor<'a, P::Runtime, P::Listener>,
     rules: Option<(Name, WhenMissing)>,
     name: Option<&'a Name>,
-    starter: &'a ProgramStarter<'a, P::Runtime>,
+    starter: &'a ProgramStarter<'a, P::Runtime, P::Errors>,
     words: &'a ServerWords<'_>,
     places: Blank,
     parts: Blank,
@@ -277,11 +272,11 @@ fn run_site<'a, L: Assumptions + Send + Sync, N: Callers + Send + Sync, P: Syste
     requires met { L.met ≡ false }
     requires parts { (parts.name ≡ N.name) × (parts.parts ≡ N.parts) × (parts.parts ≡ CALLERS) }
     requires callers { (N.all ≡ CALLERS) × (N.before ≡ 0) × (N.admissions ≡ server.now.service.limits.count) }
-    requires asked { AreAsked words.now server.now.plan server.now.service }
+    requires asked { AreAsked words.now server.now.plan server.now.service server.now.passing }
     requires rules { AreRulesOf words.now rules }
     requires named { option_copied name ≡ name_of (rules_of rules) }
     requires accepts { AcceptsAsAsked P.listens words.now acceptor }
-    requires starts { starts_in starter.now ≡ words.now.mode }
+    requires starts { IsAskedPassing words.now (passing_of starter.now) }
 {
     let alloc = rt.alloc();
     let at = RulesPath::by_words(rt, words, name);

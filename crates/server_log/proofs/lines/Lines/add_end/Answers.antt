@@ -1,12 +1,12 @@
 -- The lines of the end that it is, one after another.
-use Rattle.std.proofs.Common.{[], Some, refl}
+use Rattle.std.proofs.Common.{[], refl}
 use Rattle.server_log.specs.Lines.{error, start_text}
 use Rattle.server_log.proofs.LogLemmas.{holds_as}
 use Rattle.server_log.proofs.lines.Lines.add_end.Goals as goal
 
 pub returns-in-StartFailed : goal.returns-in-StartFailed
 returns-in-StartFailed c = λ none.
-    let start = error c.args.to.level (start_text c.in-StartFailed.serial (Some c.in-StartFailed.fault)) in
+    let start = error c.args.to.level (start_text c.in-StartFailed.serial c.in-StartFailed.fault) in
     rw c.in-StartFailed.is (c.add_cause.ensures _ (holds_as [] _ start (rw c.start_line.ensures refl) (c.add.ensures [] none)))
 
 pub returns-in-Ended : goal.returns-in-Ended

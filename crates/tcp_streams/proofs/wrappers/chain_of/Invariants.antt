@@ -1,7 +1,7 @@
 use Rattle.std.proofs.Common.{◌≡◌, map, take}
-use Rattle.tcp_service.specs.Wrappers.{changed_by}
-use Rattle.tcp_service.proofs.LineWrappers.{rest_of, whole_of}
-use Rattle.tcp_service.proofs.wrappers.chain_of.Given as goal
+use Rattle.tcp_streams.specs.Wrappers.{changed_by}
+use Rattle.tcp_streams.proofs.LineWrappers.{rest_of, whole_of}
+use Rattle.tcp_streams.proofs.wrappers.chain_of.Given as goal
 
 abbrev pub invariant-loop-name : goal.invariant-loop-name
 invariant-loop-name l = record {

@@ -1,7 +1,7 @@
 -- What the line wrappers of a connection's streams do to a text.
 use Rattle.std.specs.Prelude.{◌≡◌, ℕ, List, false, map}
-use Rattle.tcp_service.specs.declared.wrappers.Wrapper.{Wrapper}
-use Rattle.tcp_service.specs.declared.wrappers.Wrapper.TheVariants as wrapper
+use Rattle.tcp_streams.specs.declared.wrappers.Wrapper.{Wrapper}
+use Rattle.tcp_streams.specs.declared.wrappers.Wrapper.TheVariants as wrapper
 use Rattle.server_words.specs.declared.wrapping.LineWrapperName.{LineWrapperName}
 use Rattle.server_words.specs.declared.wrapping.LineWrapperName.TheVariants.{AddCr, DelCr, FixCr}
 use Rattle.byte_streams.specs.Chains.{has_failed, wrappers_of}

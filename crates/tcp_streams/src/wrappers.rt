@@ -1,11 +1,9 @@
 //! The line wrappers of a connection whose bytes are passed on.
-ghost use Rattle.std.specs.Prelude.{◌≡◌, ◌↔◌, IfOk, IfSome, is_some, true};
-ghost use Rattle.server_words.specs.declared.mode.Mode.TheVariants.{Pumped};
-ghost use Rattle.tcp_service.specs.Wrappers.{IsNewChain, changed_by, told_by};
+ghost use Rattle.std.specs.Prelude.{◌≡◌, IfOk};
+ghost use Rattle.tcp_streams.specs.Wrappers.{IsNewChain, changed_by, told_by};
 
-use crate::server::Service;
 use byte_streams::{AddCr, Chain, DelCr, FixCr, LineWrapper};
-use server_words::{LineWrapperName, Mode};
+use server_words::LineWrapperName;
 use std::alloc::{AllocError, Global};
 
 /// A line wrapper of one of the kinds that change a text.
@@ -55,38 +53,15 @@ impl Wrapper {
     }
 }
 
-/// The line wrappers of a connection, for what its client sends and for what it is sent.
-#[derive(Drop)]
-pub(crate) struct Chains {
-    /// For what the client sends.
-    pub input: Chain<Wrapper>,
-    /// For what it is sent.
-    pub output: Chain<Wrapper>,
-}
-
-/// The line wrappers of one connection of a service, all new: nothing of another connection's text has passed them.
-/// `None` where its program holds the connection itself.
+/// A chain of the wrappers of these names, the first one first. It is new: nothing of another connection's text has
+/// passed it.
 ///
 /// # Errors
 /// There was no memory.
-pub(crate) fn chains_of(alloc: Global, service: &Service<'_>) -> Result<Option<Chains>, AllocError>
-    ensures pumped { IfOk result (λ chains. (is_some chains ≡ true) ↔ (service.now.mode ≡ Pumped)) }
-    ensures input { IfOk result (λ chains. IfSome chains (λ both. IsNewChain
-        ⟦<Wrapper as LineWrapper>⟧.rest ⟦<Wrapper as LineWrapper>⟧.whole service.now.input.now both.input)) }
-    ensures output { IfOk result (λ chains. IfSome chains (λ both. IsNewChain
-        ⟦<Wrapper as LineWrapper>⟧.rest ⟦<Wrapper as LineWrapper>⟧.whole service.now.output.now both.output)) }
-{
-    match service.mode {
-        Mode::HandedOver => Ok(None),
-        Mode::Pumped => Ok(Some(Chains {
-            input: chain_of(alloc, service.input)?,
-            output: chain_of(alloc, service.output)?,
-        })),
-    }
-}
-
-// A chain of the wrappers of these names, the first one first, at the begin of a text.
-fn chain_of(alloc: Global, names: &[LineWrapperName]) -> Result<Chain<Wrapper>, AllocError>
+pub(crate) fn chain_of(
+    alloc: Global,
+    names: &[LineWrapperName],
+) -> Result<Chain<Wrapper>, AllocError>
     ensures new { IfOk result
         (IsNewChain ⟦<Wrapper as LineWrapper>⟧.rest ⟦<Wrapper as LineWrapper>⟧.whole names.now) }
 {

@@ -1,7 +1,7 @@
 -- What wrappers will still write, and what they write of a whole text.
 use Rattle.std.proofs.Common.{ℕ, List}
-use Rattle.tcp_service.specs.Wrappers.{told_by}
-use Rattle.tcp_service.specs.declared.wrappers.Wrapper.{Wrapper}
+use Rattle.tcp_streams.specs.Wrappers.{told_by}
+use Rattle.tcp_streams.specs.declared.wrappers.Wrapper.{Wrapper}
 use Rattle.byte_streams.specs.Wrappers.{deleted_from, fixed_from}
 use Rattle.byte_streams.specs.Wrapped.{added, deleted, fixed}
 

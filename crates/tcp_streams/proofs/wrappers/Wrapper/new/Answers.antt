@@ -1,6 +1,6 @@
 use Rattle.std.proofs.Common.{sym, ap, ◌∙◌}
-use Rattle.tcp_service.specs.Wrappers.{changed_by}
-use Rattle.tcp_service.proofs.wrappers.Wrapper.new.Goals as goal
+use Rattle.tcp_streams.specs.Wrappers.{changed_by}
+use Rattle.tcp_streams.proofs.wrappers.Wrapper.new.Goals as goal
 
 pub returns-in-DelCr-clause-rest : goal.returns-in-DelCr-clause-rest
 returns-in-DelCr-clause-rest c = c.new.ensures ∙ sym (ap changed_by c.in-DelCr.is)

@@ -1,0 +1,182 @@
+//! One way of a pumped connection, from a stream to another one. No call of it waits.
+ghost use Rattle.std.specs.Prelude.{◌<◌, IfSome, length, ⊤};
+ghost use Rattle.tcp_streams.specs.Wrappers.{IsNewChain};
+
+use crate::wrappers::{Wrapper, chain_of};
+use byte_streams::{Chain, LineWrapper, Recorder, Tap, Way, Why, new_room, pump_once};
+use server_words::LineWrapperName;
+use std::alloc::Global;
+use std::io;
+use std::io::{Error, ErrorKind, Read, Write};
+
+/// Records one way of a connection, if it is recorded.
+#[derive(Drop)]
+pub(crate) struct WayTap<W> {
+    pub way: Way,
+    pub recorder: Option<Recorder<W>>,
+}
+
+impl<W: Write> Tap for WayTap<W> {
+    ghost watches = { λ tap. tap.way };
+
+    ghost sees = { λ _ _ _. ⊤ };
+
+    ghost ends = { λ _ _. ⊤ };
+
+    fn way(&self) -> Way {
+        self.way
+    }
+
+    fn seen(&mut self, piece: &[u8]) {
+        if let Some(recorder) = &mut self.recorder {
+            recorder.seen(piece);
+        }
+    }
+
+    fn ended(&mut self) {
+        if let Some(recorder) = &mut self.recorder {
+            recorder.ended();
+        }
+    }
+}
+
+/// One way of a connection: what is read goes through line wrappers, and what they give is written. What the writer does
+/// not take yet is kept, and nothing more is read until it has.
+#[derive(Drop)]
+pub(crate) struct Lane<W> {
+    alloc: Global,
+    chain: Chain<Wrapper>,
+    tap: WayTap<W>,
+    // room for a read
+    room: Vec<u8>,
+    kept: Vec<u8>,
+    // whether its reader may give more
+    is_open: bool,
+    ghost has_room: { 0 < length room.items },
+}
+
+impl<W: Write + Drop> Lane<W> {
+    /// A way through the line wrappers of these names, at its begin. `None` if there is no memory.
+    pub fn new(alloc: Global, names: &[LineWrapperName], tap: WayTap<W>) -> Option<Lane<W>>
+        ensures new { IfSome result (λ lane. IsNewChain
+            ⟦<Wrapper as LineWrapper>⟧.rest ⟦<Wrapper as LineWrapper>⟧.whole names.now lane.chain) }
+    {
+        let chain = chain_of(alloc, names).ok()?;
+        let room = new_room(alloc).ok()?;
+        Some(Lane {
+            alloc,
+            chain,
+            tap,
+            room,
+            kept: Vec::new(alloc),
+            is_open: true,
+        })
+    }
+
+    /// How many bytes are kept.
+    pub fn kept(&self) -> usize {
+        self.kept.len()
+    }
+
+    /// Passes a piece on, or writes what is kept. It answers whether there may be more: `false` once the reader has
+    /// ended or failed and all was written, or the writer has failed.
+    pub fn go_on<F: Read + Drop, T: Write + Drop>(&mut self, from: F, to: T) -> bool {
+        let (mut from, mut to) = (from, to);
+        if !self.kept.is_empty() {
+            self.write_kept(&mut to);
+        } else if self.is_open {
+            self.pass_piece(&mut from, &mut to);
+        }
+        self.is_open || !self.kept.is_empty()
+    }
+
+    // Reads a piece, if there is one, and passes it on.
+    fn pass_piece<F: Read, T: Write>(&mut self, from: &mut F, to: &mut T) {
+        let mut reader = NotingReader {
+            from,
+            is_dry: false,
+        };
+        let mut writer = KeepingWriter {
+            to,
+            kept: Vec::new(self.alloc),
+        };
+        let end = pump_once(
+            self.alloc,
+            &mut reader,
+            &mut writer,
+            &mut self.chain,
+            &mut self.tap,
+            &mut self.room,
+        );
+        let KeepingWriter { to: _, kept } = writer;
+        self.kept = kept;
+        match end.why {
+            Why::ReadsOver => {}
+            Why::ReadFault if reader.is_dry => {}
+            Why::WriteFault | Why::ZeroWrite => self.end(),
+            _ => self.is_open = false,
+        }
+    }
+
+    // Writes what is kept, as far as it is taken.
+    fn write_kept<T: Write>(&mut self, to: &mut T) {
+        match to.write(&self.kept) {
+            Ok(count) if 0 < count && count < self.kept.len() => drop(self.kept.drain(..count)),
+            Ok(count) if 0 < count => self.kept = Vec::new(self.alloc),
+            Err(error) if may_go_on(&error) => {}
+            _ => self.end(),
+        }
+    }
+
+    // Nothing more passes.
+    fn end(&mut self) {
+        self.is_open = false;
+        self.kept = Vec::new(self.alloc);
+    }
+}
+
+// Whether a call that failed may be made again.
+fn may_go_on(error: &Error) -> bool {
+    matches!(error.kind(), ErrorKind::WouldBlock | ErrorKind::Interrupted)
+}
+
+// A reader that notes whether it had nothing to give yet.
+#[derive(Drop)]
+struct NotingReader<'a, F> {
+    from: &'a mut F,
+    is_dry: bool,
+}
+
+impl<F: Read> Read for NotingReader<'_, F> {
+    fn read(&mut self, buf: &mut [u8]) -> io::Result<usize> {
+        let got = self.from.read(buf);
+        self.is_dry = matches!(&got, Err(error) if error.kind() == ErrorKind::WouldBlock);
+        got
+    }
+}
+
+// A writer that keeps what the stream behind it does not take yet.
+#[derive(Drop)]
+struct KeepingWriter<'a, T> {
+    to: &'a mut T,
+    kept: Vec<u8>,
+}
+
+impl<T: Write> Write for KeepingWriter<'_, T> {
+    fn write(&mut self, buf: &[u8]) -> io::Result<usize> {
+        if self.kept.is_empty() {
+            match self.to.write(buf) {
+                Err(error) if error.kind() == ErrorKind::WouldBlock => {}
+                outcome => return outcome,
+            }
+        }
+        match self.kept.extend_from_slice(buf) {
+            Ok(()) => Ok(buf.len()),
+            Err(_) => Err(Error::from(ErrorKind::OutOfMemory)),
+        }
+    }
+
+    fn flush(&mut self) -> io::Result<()> {
+        Ok(())
+    }
+}

@@ -1,0 +1,221 @@
+//! Programs of the system, each with the connection that it serves.
+ghost use Rattle.std.specs.Prelude.{◌≡◌, ⊤, IfOk, false, true};
+
+use crate::passing::{Passage, Passing};
+use crate::sockets::Holder;
+use child_jobs::{
+    Environment, Exit, Job, Launcher, NoEnds, NotStarted, Program, StartFault, WaitFault,
+};
+use server_words::Mode;
+use std::alloc::Global;
+use std::fs::Files;
+use std::io::{Empty, Sink, Write};
+use std::os::fd::OwnedFd;
+use std::process::Processes;
+use std::sync::Wait;
+use std::thread;
+use std::time::{Clock, Duration};
+use stream_tools::{OsJob, OsLauncher, SearchPath};
+use tcp_connections::{Reserve, Starter};
+
+/// For so many milliseconds a program waits that the system has no process or no descriptor for: at first, and at most,
+/// each time twice as long as before; and so often, which takes about a minute.
+const FIRST_WAIT: u64 = 10;
+
+const LONGEST_WAIT: u64 = 1_000;
+
+const WAITS: u32 = 66;
+
+/// After so many of them each is the longest.
+const LONGER: u32 = 8;
+
+/// Starts programs as `OsLauncher` does. Where the system has no process for one, the one in reserve is given back. Then,
+/// and where it has no descriptor, since fewer are allowed by now, it waits for some time for the end of another.
+///
+/// A connection that is handed over is the standard input and output of its program, one socket twice, and this process
+/// holds it no more. Else both are pipes, and the job has the connection: `wait` passes its bytes.
+#[derive(Drop)]
+pub struct ProgramStarter<'a, R, E> {
+    rt: &'a R,
+    search: &'a SearchPath,
+    reserve: &'a Reserve,
+    passing: Passing<'a>,
+    // takes what is recorded
+    errors: E,
+}
+
+impl<'a, R: Processes + Files + Wait + Clock, E: Write + Copy + Drop> ProgramStarter<'a, R, E> {
+    ghost use Rattle.tcp_streams.specs.Asked.{passing_of};
+
+    /// A starter over the system's processes, which looks for programs in these folders. The bytes of their connections
+    /// pass in this way, and are recorded to `errors`.
+    pub fn new(
+        rt: &'a R,
+        search: &'a SearchPath,
+        reserve: &'a Reserve,
+        passing: Passing<'a>,
+        errors: E,
+    ) -> ProgramStarter<'a, R, E>
+        ensures passing { passing_of result ≡ passing.entry }
+    {
+        ProgramStarter {
+            rt,
+            search,
+            reserve,
+            passing,
+            errors,
+        }
+    }
+
+    // Starts a program on this socket, or else between pipes, once the system has a process and descriptors for it, if
+    // that is before long.
+    fn start_in_time(
+        &self,
+        alloc: Global,
+        program: &Program,
+        environment: &Environment,
+        stream: Option<&OwnedFd>,
+    ) -> Result<OsJob, NotStarted>
+        ensures program { IfOk result (λ job. ⟦<OsJob as Job>⟧.program job ≡ program.now) }
+        ensures environment { IfOk result (λ job. ⟦<OsJob as Job>⟧.environment job ≡ environment.now) }
+    {
+        for waits in 0..WAITS {
+            match self.start_once(alloc, program, environment, stream) {
+                Err(refused) if refused.error == Some(libc::EAGAIN) => {
+                    self.reserve.give_back(self.rt);
+                    self.wait_for_another(waits);
+                }
+                Err(refused) if refused.error == Some(libc::EMFILE) => self.wait_for_another(waits),
+                outcome => return outcome,
+            }
+        }
+        self.start_once(alloc, program, environment, stream)
+    }
+
+    // Starts a program on this socket, or else between pipes.
+    fn start_once(
+        &self,
+        alloc: Global,
+        program: &Program,
+        environment: &Environment,
+        stream: Option<&OwnedFd>,
+    ) -> Result<OsJob, NotStarted>
+        ensures program { IfOk result (λ job. ⟦<OsJob as Job>⟧.program job ≡ program.now) }
+        ensures environment { IfOk result (λ job. ⟦<OsJob as Job>⟧.environment job ≡ environment.now) }
+    {
+        let launcher = OsLauncher::new(self.rt, self.search);
+        match stream {
+            Some(stream) => launcher.start_on(alloc, program, environment, stream),
+            None => launcher.start(alloc, program, environment),
+        }
+    }
+
+    // Waits for what another program gives back that ends, after so many such waits.
+    fn wait_for_another(&self, waits: u32) {
+        let longer = FIRST_WAIT << waits.min(LONGER);
+        thread::sleep(self.rt, Duration::from_millis(longer.min(LONGEST_WAIT)));
+    }
+}
+
+impl<'a, R, E> Starter<Holder<'a, R>> for ProgramStarter<'a, R, E>
+where
+    R: Processes + Files + Wait + Clock,
+    E: Write + Copy + Drop,
+{
+    type Job = ServiceJob<'a, R, E>;
+
+    ghost may = { λ _ _ _ _. true };
+
+    ghost refuses = { λ _ _ _ _ _. ⊤ };
+
+    /// As of the trait; a connection that was given before is `Other`. One whose program is not started is closed.
+    fn start_for(
+        &self,
+        alloc: Global,
+        connection: &Holder<'a, R>,
+        program: &Program,
+        environment: &Environment,
+    ) -> Result<ServiceJob<'a, R, E>, NotStarted> {
+        let client = connection.take().ok_or(StartFault::Other)?;
+        let (rt, passing, port) = (self.rt, &self.passing, connection.port());
+        match passing.mode {
+            Mode::HandedOver => {
+                let stream = OwnedFd::from(client);
+                let job = self.start_in_time(alloc, program, environment, Some(&stream))?;
+                Ok(ServiceJob { job, passage: None })
+            }
+            Mode::Pumped => {
+                let passage = Passage::new(alloc, rt, passing, self.errors, port, client);
+                let passage = Box::new(alloc, passage.ok_or(StartFault::OutOfMemory)?);
+                let passage = Some(passage.ok().ok_or(StartFault::OutOfMemory)?);
+                let job = self.start_in_time(alloc, program, environment, None)?;
+                Ok(ServiceJob { job, passage })
+            }
+        }
+    }
+}
+
+/// The program of a connection, with the connection if it is pumped. The language lets nobody drop it: it is waited for,
+/// or abandoned.
+pub struct ServiceJob<'a, R, E> {
+    job: OsJob,
+    // (in a box, since a job that is handed on takes each time as much of the stack as it is long)
+    passage: Option<Box<Passage<'a, R, E>>>,
+}
+
+/// It has no pipe ends to give: its wait uses them.
+impl<'a, R: Wait + Clock, E: Write + Copy + Drop> Job for ServiceJob<'a, R, E> {
+    type Input = Sink;
+
+    type Output = Empty;
+
+    ghost program = { λ job. ⟦<OsJob as Job>⟧.program job.job };
+
+    ghost environment = { λ job. ⟦<OsJob as Job>⟧.environment job.job };
+
+    ghost has_ends = { λ _. false };
+
+    ghost killed = { λ _ _ _. ⊤ };
+
+    ghost ended = { λ _ _. ⊤ };
+
+    ghost refused_wait = { λ _ _ _. ⊤ };
+
+    fn ends(&mut self) -> Result<(Sink, Empty), NoEnds> {
+        Err(NoEnds)
+    }
+
+    fn kill(&mut self) -> Result<(), WaitFault> {
+        self.job.kill()
+    }
+
+    fn process(&self) -> Option<u32> {
+        self.job.process()
+    }
+
+    /// As of the trait. Before it waits, the bytes of a pumped connection pass; and once it has waited, that connection is
+    /// closed.
+    fn wait(self) -> Result<Exit, (ServiceJob<'a, R, E>, WaitFault)> {
+        let ServiceJob {
+            mut job,
+            mut passage,
+        } = self;
+        if let Some(passage) = &mut passage {
+            passage.pass(&mut job);
+        }
+        let waited = job.wait();
+        if let Some(passage) = passage {
+            passage.drop_rest();
+            drop(passage);
+        }
+        match waited {
+            Ok(exit) => Ok(exit),
+            Err((job, fault)) => Err((ServiceJob { job, passage: None }, fault)),
+        }
+    }
+
+    fn abandon(self) {
+        let ServiceJob { job, passage: _ } = self;
+        job.abandon();
+    }
+}
