@@ -60,7 +60,6 @@ CALLS = [
     ("recv", ["EINTR", "EAGAIN", "EIO", "ECONNRESET", "ENOMEM"], [], []),
     ("write", ["EINTR", "EAGAIN", "EIO", "EPIPE", "ENOSPC", "ENOMEM"], ["write fault"], []),
     ("send", ["EINTR", "EAGAIN", "EPIPE", "ECONNRESET", "ENOMEM"], [], []),
-    ("shutdown", ["ENOTCONN"], [], []),
     ("poll", ["EINTR", "ENOMEM"], [], []),
     ("close", ["EINTR", "EIO"], [], []),
     ("kill", ["EPERM", "ESRCH"], [], []),

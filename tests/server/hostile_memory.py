@@ -320,13 +320,13 @@ def full_addresses(suite):
 
 
 def no_memory_for_a_while(suite):
-    """All memory is refused for a while: no client is served then, the server lives, and afterwards it serves on."""
+    """All memory is refused for a while: each client is given up then, the server lives, and afterwards it serves on."""
     library = failed_calls.Library(suite.folder)
     path = suite.install(":allow\n", "while.cdb")
     run = library.run_while("memory", "ENOMEM")
     variables = dict(run.environment, PATH=os.environ["PATH"])
     with suite.start(["-v", "-c", "3", "-x", path], ECHO, env=variables) as server:
-        for round_ in range(5):
+        for _ in range(5):
             suite.expect("before there is no memory", [server.ask(b"a\n") for _ in range(3)], [b"a\n"] * 3)
             # a client sees its end before the server has told it
             server.idle()
@@ -334,23 +334,25 @@ def no_memory_for_a_while(suite):
             run.turn(True)
             suite.expect("while there is no memory", [server.ask(b"a\n") for _ in range(12)], [b""] * 12)
             run.turn(False)
-            server.wait_line("out of memory", 12 * (round_ + 1))
-            suite.expect("the lines while there is no memory", server.lines()[before:], ["out of memory"] * 12)
+            server.idle()
+            told = [line for line in server.lines()[before:] if not line.startswith(("status: ", "pid "))]
+            suite.expect("how many lines tell of no memory", len(told), 12)
+            suite.holds("the lines while there is no memory", all(re.fullmatch(log_forms.drop(r"\d+", "out of memory"), line) for line in told), told)
             suite.expect("after there was no memory", [server.ask(b"a\n") for _ in range(3)], [b"a\n"] * 3)
             server.idle()
         suite.holds("the server lives", server.process.poll() is None)
         events = suite.audit("no memory for a while", server)
-        suite.expect("those without memory are not counted", events.admitted, 5 * 6)
+        suite.expect("those without memory are let in and given up", events.admitted, 5 * (6 + 12))
 
 
 def many_without_memory(suite):
-    """A hundred and fifty clients in succession for whom there is no memory are no faults of accepting, and none of those that -k counts. Each has its line
-    at each level but -q, whether the server is called as `tcpserver` or not."""
+    """A hundred and fifty clients in succession for whose connection's name there is no memory are no faults of accepting, and none of those that -k
+    counts. Each has its line at each level but -q, whether the server is called as `tcpserver` or not."""
     library, line = failed_calls.Library(suite.folder), b"tcpserver: out of memory\n"
     for command in (suite.command, suite.by_name()):
         for level, told in (("-v", line), ("-Q", line), ("-q", b"")):
             run = library.run_while("memory", "ENOMEM")
-            with suite.start([level, "-k", "2"], ECHO, command=command, env=dict(run.environment, PATH=os.environ["PATH"])) as server:
+            with suite.start([level, "-k", "2", "-l", "here"], ECHO, command=command, env=dict(run.environment, PATH=os.environ["PATH"])) as server:
                 suite.expect("before many clients without memory", server.ask(b"a\n"), b"a\n")
                 run.turn(True)
                 suite.expect("many clients without memory", [server.ask(b"a\n") for _ in range(150)], [b""] * 150)

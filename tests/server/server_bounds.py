@@ -53,7 +53,7 @@ def faults_counted_anew(suite):
 
 
 def faults_after_a_crowd(suite):
-    """A hundred faults in succession end a server also while other threads of it wait for connections, as they do after a crowd. Who is served then is
+    """A hundred faults in succession end a server also while other threads of it wait for their turn, as they do after a crowd. Who is served then is
     served to the end."""
     run = failed_calls.Library(suite.folder).run_while("accept4", "EIO")
     with suite.start(["-v", "-c", "40"], GREETS, env=failing(run)) as server:
@@ -62,8 +62,7 @@ def faults_after_a_crowd(suite):
         server.idle()
         run.turn(True)
         with greeted(server) as last:
-            # (the thread of this one waits for its next client by a call that fails; the other threads wait in calls from before)
-            greeted(server).close()
+            # (this one came by a call from before; all later ones fail)
             server_runs.wait_until("a hundred faults", lambda: len(run.failed()) >= 100, PATIENCE)
             last.sendall(b"\n")
             suite.expect("a client after the faults", server_runs.read_all(last), b"")

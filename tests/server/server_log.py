@@ -86,7 +86,7 @@ def dropped(suite):
 def lost_banner(suite):
     """A client that resets before it is let in: the banner can't be written."""
     with suite.start(["-v", "-c", "1", "-k", "2", "-B", "hello\n"], ["echo", "hi"]) as server:
-        os.kill(server.process.pid, signal.SIGSTOP)
+        server.suspend()
         server_runs.reset(server.connect())
         os.kill(server.process.pid, signal.SIGCONT)
         peer, got = server.talk()
@@ -403,7 +403,7 @@ def bursts(suite):
     for options, per in (([], None), (["-m", "2"], 2), (["-c", "1"], None), (["-c", "3", "-m", "1"], 1)):
         with suite.start(["-v", "-c", "8", "-x", path] + options, program) as server:
             for round_ in range(2):
-                os.kill(server.process.pid, signal.SIGSTOP)
+                server.suspend()
                 sources, came = ["127.0.%d.%d" % (1 + n % 3, 1 + n // 3 % 7) for n in range(60)], []
                 threads = [threading.Thread(target=burst_client, args=(server, source, orders[n % 5], came)) for n, source in enumerate(sources)]
                 for thread in threads:

@@ -110,14 +110,28 @@ def documented(handed):
         (("as", "data", "stack"), ("data",)), (int(number.replace(",", "")) for number in numbers))]
 
 
+def told_limits(handed):
+    """What a server of the source says it needs at least, in bytes: of address space, and of data."""
+    with open(os.path.join(TOP, "crates", "server_parts", "src", "limits.rt"), encoding="utf-8") as file:
+        known = {name: int(value.replace("_", "")) for name, value in re.findall(r"^const (\w+_ALONE): u64 = ([\d_]+);$", file.read(), re.M)}
+    connection = known["START_ALONE"] + (0 if handed else known["PUMPED_ALONE"])
+    return [known[name] + connection for name in ("ADDRESSES_ALONE", "DATA_ALONE")]
+
+
+# the cookbook's limits are rounded up to so many bytes
+ROUND = 100_000
+
 # a server that ends since it has too little memory does so within so many seconds
 LONGEST_START = 5
 
 
 @needs_proved(8)
 def lowest_limits(suite):
-    """The lowest limits that the cookbook tells, and an eighth more: so many clients are served at once. With an eighth less the server ends and says
-    so, or goes on; with much less it has no memory for its words, or the loader none for it."""
+    """The lowest limits that the cookbook tells, and an eighth more: so many clients are served at once. With a sixteenth less the server ends and
+    says so, or goes on; with much less it has no memory for its words, or the loader none for it."""
+    lowest = [number for _, number, count in documented(suite.handed) if count == 1]
+    rounded = [-(-number // ROUND) * ROUND for number in told_limits(suite.handed)]
+    suite.expect("the cookbook has what a server says it needs", lowest, rounded)
     for kinds, number, count in documented(suite.handed):
         name = "%d bytes of %s" % (number, " and ".join(kinds))
         options, how = ["-v", "-c", "40"], {"env": {"PATH": os.environ["PATH"]}}
@@ -129,7 +143,8 @@ def lowest_limits(suite):
             for client in clients:
                 client.close()
         if count == 1:
-            words = limited(suite, [(kind, number * 7 // 8) for kind in kinds]) + options + ["127.0.0.1", "0", "cat"]
+            less = number * 15 // 16
+            words = limited(suite, [(kind, less) for kind in kinds]) + options + ["127.0.0.1", "0", "cat"]
             began = subprocess.Popen(words, stderr=subprocess.PIPE, **how)
             with contextlib.suppress(subprocess.TimeoutExpired):
                 began.wait(timeout=LONGEST_START)
@@ -137,10 +152,10 @@ def lowest_limits(suite):
             began.kill()
             told = began.communicate()[1].decode().splitlines()[-2:]
             is_ended = (began.returncode, told[:1]) == (111, ["tcpserver: out of memory"])
-            suite.expect("it goes on or ends with an eighth less than " + name, goes_on or is_ended, True)
-            cause = re.fullmatch(r"tcpserver: cause: (data|address space): limited to (\d+) bytes, at least (\d+) needed", told[-1])
-            is_told = cause and int(cause[2]) == number * 7 // 8 < int(cause[3]) <= number
-            suite.expect("which limit is an eighth less than %s, and that more is needed" % name, goes_on or is_told, True)
+            suite.expect("it goes on or ends with a sixteenth less than " + name, goes_on or is_ended, True)
+            cause = re.fullmatch(r"tcpserver: cause: (data|address space): limited to (\d+) bytes, at least (\d+) needed", (told or [""])[-1])
+            is_told = cause and int(cause[2]) == less < int(cause[3]) <= number
+            suite.expect("which limit is a sixteenth less than %s, and that more is needed" % name, goes_on or is_told, True)
 
 
 @needs_proved(7)

@@ -135,7 +135,8 @@ def output_ends_first(suite):
         text = bytes(range(256)) * 8192
         with server.connect() as client:
             suite.expect("before the output's end", client.recv(3), b"hi\n")
-            time.sleep(0.1)
+            # (the server looks meanwhile whether the program is over)
+            time.sleep(0.3)
             send(client, text)
             suite.expect("after the output's end", read_all(client), b"")
         server.idle()
@@ -218,7 +219,7 @@ def vanishing_clients(suite):
 def vanished_before(suite):
     """Clients that were gone before the server looked."""
     with suite.start(["-v", "-c", "5"] + server_runs.QUIET, ["sh", "-c", "echo hi; cat"]) as server:
-        os.kill(server.process.pid, signal.SIGSTOP)
+        server.suspend()
         for number in range(60):
             client = server.connect()
             reset(client) if number % 2 else client.close()

@@ -232,6 +232,17 @@ class Server:
     def threads(self):
         return len(os.listdir("/proc/%d/task" % self.process.pid))
 
+    def suspend(self):
+        """Stops the server for now, and waits until each of its threads has stopped: until then one may still accept."""
+        os.kill(self.process.pid, signal.SIGSTOP)
+        wait_until("threads that stop", lambda: set(self.states()) == {"T"}, WAIT)
+
+    def states(self):
+        """How each thread is, as /proc has it."""
+        for number in os.listdir("/proc/%d/task" % self.process.pid):
+            with open("/proc/%d/task/%s/stat" % (self.process.pid, number)) as file:
+                yield file.read().rpartition(")")[2].split()[0]
+
 
 def children_of(number):
     """The processes whose parent has this number, those that ended and were not waited for among them."""

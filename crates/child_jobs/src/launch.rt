@@ -1,5 +1,5 @@
 //! Programs, the jobs that run them, and what starts a job.
-ghost use Rattle.std.specs.Prelude.{◌≡◌, true, false, Bool, Result, map, string_bytes, IfOk, IfErr, OnOk, IsTrue};
+ghost use Rattle.std.specs.Prelude.{◌≡◌, Bool, Result, map, string_bytes, IfOk, IfErr, IsTrue};
 ghost use Rattle.child_jobs.specs.declared.outcome.NotStarted.{NotStarted as Refusal};
 ghost use Rattle.child_jobs.specs.declared.outcome.Status.{Status as StatusOf};
 ghost use Rattle.child_jobs.specs.declared.launch.WaitFault.{WaitFault};
@@ -8,7 +8,6 @@ ghost use Rattle.child_jobs.specs.Programs.{ProgramText};
 
 use crate::{Environment, Exit, NotStarted};
 use std::alloc::Global;
-use std::io::{Read, Write};
 use std::marker::Model;
 
 /// A program and its arguments.
@@ -62,29 +61,16 @@ pub enum WaitFault {
     OutOfMemory,
 }
 
-/// A job has no pipe ends to give: it was started without them, or gave them before.
-#[derive(Clone, Copy)]
-pub struct NoEnds;
-
 /// A running program. It tells its program and its environment, which stay the same.
 ///
 /// A job is let go by a wait that succeeded, or by `abandon`. A job that runs a program of the system should not be
 /// `Drop`, so that nothing else lets it go.
 pub trait Job {
-    /// The end of the pipe that the program reads.
-    type Input: Write;
-
-    /// The end of the pipe that the program writes.
-    type Output: Read;
-
     /// The program that it runs.
     ghost program: { Self → ProgramText };
 
     /// The variables that the program was given.
     ghost environment: { Self → Variables };
-
-    /// Whether its pipe ends can still be given.
-    ghost has_ends: { Self → Bool };
 
     /// What a kill may answer, with the job before it and after it. If nothing is known of a job, it may answer
     /// anything.
@@ -98,26 +84,12 @@ pub trait Job {
     /// answer anything.
     ghost refused_wait: { Self → Self → WaitFault → Type 0 };
 
-    /// Gives the two ends of its pipes, once. It takes no memory.
-    ///
-    /// The program reads on descriptor 0 what is written into the first end. What it writes on descriptor 1 is read
-    /// from the second.
-    ///
-    /// # Errors
-    /// `NoEnds` if there are none.
-    fn ends(&mut self) -> Result<(Self::Input, Self::Output), NoEnds>
-        ensures had { OnOk result (has_ends self.old ≡ true) }
-        ensures given { has_ends self.new ≡ false }
-        ensures program { program self.new ≡ program self.old }
-        ensures environment { environment self.new ≡ environment self.old };
-
     /// Ends the program by force. It still has to be waited for.
     ///
     /// # Errors
     /// `Failed` if the system refused it; `OutOfMemory`. The job is as before.
     fn kill(&mut self) -> Result<(), WaitFault>
         ensures told { killed self.old self.new result }
-        ensures ends { has_ends self.new ≡ has_ends self.old }
         ensures program { program self.new ≡ program self.old }
         ensures environment { environment self.new ≡ environment self.old };
 
@@ -129,19 +101,16 @@ pub trait Job {
     /// Waits until the program has ended, and answers how it ended.
     ///
     /// # Errors
-    /// `Failed` if the system refused it; `OutOfMemory`. The job is handed back and may be waited for again. Pipe ends
-    /// that were not given are closed, so that a program can end which reads its input to the end.
+    /// `Failed` if the system refused it; `OutOfMemory`. The job is handed back and may be waited for again.
     fn wait(self) -> Result<Exit, (Self, WaitFault)>
     where
         Self: Sized,
         ensures told { IfOk result (λ exit. ended self exit.status) }
         ensures refused { IfErr result (λ refused. refused_wait self refused.0 refused.1) }
         ensures program { IfErr result (λ refused. program refused.0 ≡ program self) }
-        ensures environment { IfErr result (λ refused. environment refused.0 ≡ environment self) }
-        ensures no_ends { IfErr result (λ refused. has_ends refused.0 ≡ false) };
+        ensures environment { IfErr result (λ refused. environment refused.0 ≡ environment self) };
 
-    /// Lets the program go before its end: it may run on, and nobody waits for it any more. Pipe ends that were not
-    /// given are closed.
+    /// Lets the program go before its end: it may run on, and nobody waits for it any more.
     ///
     /// It is for a program that could not be waited for, and for one whose end nobody can be told. Whoever counts
     /// programs counts such a one for good.
@@ -161,8 +130,7 @@ pub trait Launcher {
     /// Why it may refuse a program with these variables. A launcher of which nothing is known may answer anything.
     ghost refuses: { Self → ProgramText → Variables → Refusal → Type 0 };
 
-    /// Starts a program with these variables and no others, its standard input and output on pipes. The launcher is
-    /// spent by one try.
+    /// Starts a program with these variables and no others. The launcher is spent by one try.
     ///
     /// # Errors
     /// `NotFound` if there is no such program; `Refused` if the system refuses it, as one that may not be executed;

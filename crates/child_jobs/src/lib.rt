@@ -24,7 +24,7 @@ pub mod table;
 pub use child::build;
 pub use environment::{Environment, Variable};
 pub use hosts::{HostFault, HostTable};
-pub use launch::{Job, Launcher, NoEnds, Program, WaitFault};
+pub use launch::{Job, Launcher, Program, WaitFault};
 pub use local::Local;
 pub use outcome::{DropCause, Exit, NotStarted, StartFault, Status};
 pub use place::Place;

@@ -62,6 +62,4 @@ pub enum DropCause {
     Damaged,
     /// There was no memory for it.
     Memory,
-    /// There was no thread to serve it.
-    NoThread,
 }

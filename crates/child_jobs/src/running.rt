@@ -1,9 +1,9 @@
 //! A child and its place, from start to end.
-ghost use Rattle.std.specs.Prelude.{◌≡◌, ◌+◌, IfOk, IfErr, OnOk, true, false, IsTrue};
+ghost use Rattle.std.specs.Prelude.{◌≡◌, ◌+◌, IfOk, IfErr, true, IsTrue};
 ghost use Rattle.child_jobs.specs.PlacesOut.{is_used};
 ghost use Rattle.child_jobs.specs.Runs.{IsSameRun, job_of, place_of};
 
-use crate::launch::{Job, Launcher, NoEnds, Program, WaitFault};
+use crate::launch::{Job, Launcher, Program, WaitFault};
 use crate::{Environment, Exit, NotStarted, Place, PlaceTable};
 use std::alloc::Global;
 use std::sync::ledger::Ledger;
@@ -30,25 +30,12 @@ impl<L: Ledger, J: Job> Running<L, J> {
         self.job.process()
     }
 
-    /// Gives the two ends of its pipes, once, as `Job::ends` does. It takes no memory.
-    ///
-    /// # Errors
-    /// `NoEnds` if there are none.
-    pub fn ends(&mut self) -> Result<(J::Input, J::Output), NoEnds>
-        ensures had { OnOk result (J.has_ends (job_of self.old) ≡ true) }
-        ensures given { J.has_ends (job_of self.new) ≡ false }
-        ensures same { IsSameRun J.program J.environment self.old self.new }
-    {
-        self.job.ends()
-    }
-
     /// Ends the child by force, and answers what `Job::kill` does. The child still has to be waited for.
     ///
     /// # Errors
     /// Those of `Job::kill`. The child is as before.
     pub fn kill(&mut self) -> Result<(), WaitFault>
         ensures told { J.killed (job_of self.old) (job_of self.new) result }
-        ensures ends { J.has_ends (job_of self.new) ≡ J.has_ends (job_of self.old) }
         ensures same { IsSameRun J.program J.environment self.old self.new }
     {
         self.job.kill()
@@ -106,7 +93,7 @@ pub fn start<L: Ledger, S: Launcher>(
 /// Waits until a child has ended, and gives its place back with how it ended, as its job tells.
 ///
 /// # Errors
-/// Those of `Job::wait`: the same child holds the same place, has no pipe ends to give, and may be waited for again.
+/// Those of `Job::wait`: the same child holds the same place, and may be waited for again.
 pub fn finish<L: Ledger, J: Job>(
     running: Running<L, J>,
 ) -> Result<(Place<L>, Exit), (Running<L, J>, WaitFault)>
@@ -114,7 +101,6 @@ pub fn finish<L: Ledger, J: Job>(
     ensures told { IfOk result (λ ended. J.ended (job_of running) ended.1.status) }
     ensures refused { IfErr result (λ refused. J.refused_wait (job_of running) (job_of refused.0) refused.1) }
     ensures same { IfErr result (λ refused. IsSameRun J.program J.environment running refused.0) }
-    ensures no_ends { IfErr result (λ refused. J.has_ends (job_of refused.0) ≡ false) }
 {
     let Running { job, place } = running;
     match job.wait() {

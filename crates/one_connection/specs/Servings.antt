@@ -98,7 +98,6 @@ Drops fails is_shared before now banner cause.Directory = HasFailed before now �
 Drops fails is_shared before now banner cause.ReadFault = fails cause.ReadFault
 Drops fails is_shared before now banner cause.Damaged = fails cause.Damaged
 Drops fails is_shared before now banner cause.Memory = ⊤
-Drops fails is_shared before now banner cause.NoThread = ⊥
 
 -- a writer took the first of these bytes, and not all of them
 abbrev pub AppendsFront : (old new : Option (List ℕ)) → List ℕ → Type 0
@@ -115,40 +114,40 @@ abbrev pub is_banner : DropCause → Bool
 is_banner cause.Banner = true
 is_banner _ = false
 
-abbrev pub is_cut_short : {L : _} {J : Type 0} {I O : _} → Served L J I O → Bool
+abbrev pub is_cut_short : {L : _} {J : Type 0} → Served L J → Bool
 is_cut_short (Served.Dropped why) = is_banner why
 is_cut_short _ = false
 
 -- what is said of a child that runs; of a denial; of a child that could not be started; of a drop; of all but the first
-abbrev pub IfRunning : {L : _} {J : Type 0} {I O : _} → Served L J I O → (Running L J I O → Type 0) → Type 0
+abbrev pub IfRunning : {L : _} {J : Type 0} → Served L J → (Running L J → Type 0) → Type 0
 IfRunning (Served.Running child) P = P child
 IfRunning _ P = ⊤
 
-abbrev pub OnDenied : {L : _} {J : Type 0} {I O : _} → Served L J I O → Type 0 → Type 0
+abbrev pub OnDenied : {L : _} {J : Type 0} → Served L J → Type 0 → Type 0
 OnDenied Served.Denied P = P
 OnDenied _ P = ⊤
 
-abbrev pub IfStartFailed : {L : _} {J : Type 0} {I O : _} → Served L J I O → (StartFault → Type 0) → Type 0
+abbrev pub IfStartFailed : {L : _} {J : Type 0} → Served L J → (StartFault → Type 0) → Type 0
 IfStartFailed (Served.StartFailed fault) P = P fault
 IfStartFailed _ P = ⊤
 
-abbrev pub IfDropped : {L : _} {J : Type 0} {I O : _} → Served L J I O → (DropCause → Type 0) → Type 0
+abbrev pub IfDropped : {L : _} {J : Type 0} → Served L J → (DropCause → Type 0) → Type 0
 IfDropped (Served.Dropped why) P = P why
 IfDropped _ P = ⊤
 
-abbrev pub UnlessRunning : {L : _} {J : Type 0} {I O : _} → Served L J I O → Type 0 → Type 0
+abbrev pub UnlessRunning : {L : _} {J : Type 0} → Served L J → Type 0 → Type 0
 UnlessRunning (Served.Running child) P = ⊤
 UnlessRunning _ P = P
 
 -- the event with which the serving ends, by its answer
-abbrev pub last_event : {L : _} {J : Type 0} {I O : _} → ℕ → Served L J I O → Event
+abbrev pub last_event : {L : _} {J : Type 0} → ℕ → Served L J → Event
 last_event n (Served.Running child) = Started n
 last_event n Served.Denied = Dropped n cause.Denied
 last_event n (Served.StartFailed fault) = StartFailed n fault
 last_event n (Served.Dropped why) = Dropped n why
 
 -- the stage in which it comes: a denial comes after the decision to deny, and no other drop does
-abbrev pub ComesAt : {L : _} {J : Type 0} {I O : _} → Served L J I O → Stage → Type 0
+abbrev pub ComesAt : {L : _} {J : Type 0} → Served L J → Stage → Type 0
 ComesAt (Served.Running child) at = at ≡ stage.Decided Allow
 ComesAt Served.Denied at = at ≡ stage.Decided Deny
 ComesAt (Served.StartFailed fault) at = at ≡ stage.Decided Allow

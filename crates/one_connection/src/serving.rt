@@ -173,7 +173,8 @@ fn run<L: Assumptions, D: Agent<L, Place = Place<L>>, S: Launcher>(
 /// Serves a connection that was let in, up to the start of its child (UCSPI-1996; the page of `tcpserver`). It writes
 /// the plan's banner, opens the rules, decides, and starts the plan's program with the environment of that decision.
 /// All connections share the plan. `peer` and `local` are the two ends of this one. The agent is that of this
-/// connection, and keeps what an opening of the rules found.
+/// connection, and keeps what an opening of the rules found. What is written to its launcher the client is sent: the
+/// banner goes to `greeter`, a second launcher of this connection, which starts nothing.
 ///
 /// The answer says how it went, and is the last event that the agent told. `Running` only if the decision by what was
 /// found is to allow: the child's program is the plan's, and its environment that of the decision. `Denied` only if
@@ -181,7 +182,7 @@ fn run<L: Assumptions, D: Agent<L, Place = Place<L>>, S: Launcher>(
 /// `Dropped` with the cause: the banner could not be written, the rules file could not be opened or read or is damaged,
 /// or there was no memory. A connection that was decided to be denied is never dropped so. Unless the child runs, the
 /// connection is gone, and its place is free.
-pub fn serve_one<L: Assumptions, D: Agent<L, Place = Place<L>>, S: Launcher + Drop, W: Write>(
+pub fn serve_one<L: Assumptions, D: Agent<L, Place = Place<L>>, S: Launcher + Write + Drop>(
     alloc: Global,
     agent: &mut D,
     place: Place<L>,
@@ -190,7 +191,7 @@ pub fn serve_one<L: Assumptions, D: Agent<L, Place = Place<L>>, S: Launcher + Dr
     local: &Local,
     plan: &Plan,
     launcher: S,
-    writer: &mut W,
+    greeter: &mut S,
 ) -> Served<L, S::Job>
     requires index { (place : ℕ) → D.index place ≡ place }
     requires admitted { D.stands agent.old place serial peer.now stage.Admitted }
@@ -212,9 +213,9 @@ pub fn serve_one<L: Assumptions, D: Agent<L, Place = Place<L>>, S: Launcher + Dr
         (λ d. D.stands d place serial peer.now) (ComesAt result) (last_event serial result) agent.new }
     ensures gone { UnlessRunning result (D.is_gone agent.new serial) }
     // only the banner is written, and before all else
-    ensures greeted { Greets (W.contents writer.old) (W.contents writer.new) plan.now.banner (is_cut_short result) }
+    ensures greeted { Greets (S.contents greeter.old) (S.contents greeter.new) plan.now.banner (is_cut_short result) }
 {
-    if let Err(cause) = greet(writer, plan.banner()) {
+    if let Err(cause) = greet(greeter, plan.banner()) {
         give_up(agent, place, serial, peer, cause);
         return Served::Dropped(cause);
     }

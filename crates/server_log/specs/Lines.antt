@@ -6,7 +6,7 @@ use Rattle.rule_lookup.specs.declared.instr.Verdict.{Verdict}
 use Rattle.rule_lookup.specs.declared.instr.Verdict.TheVariants.{Allow, Deny}
 use Rattle.rule_lookup.specs.Peers.{Client}
 use Rattle.child_jobs.specs.declared.outcome.DropCause.{DropCause}
-use Rattle.child_jobs.specs.declared.outcome.DropCause.TheVariants.{Denied, Banner, Directory, ReadFault, Damaged, Memory, NoThread}
+use Rattle.child_jobs.specs.declared.outcome.DropCause.TheVariants.{Denied, Banner, Directory, ReadFault, Damaged, Memory}
 use Rattle.child_jobs.specs.declared.outcome.StartFault.{StartFault}
 use Rattle.child_jobs.specs.declared.outcome.StartFault.TheVariants.{NotFound, Refused, Other, OutOfMemory}
 use Rattle.child_jobs.specs.declared.outcome.Status.{Status}
@@ -79,7 +79,6 @@ cause_text Directory = Some (codes "directory fault")
 cause_text ReadFault = Some (codes "rules read fault")
 cause_text Damaged = Some (codes "rules damaged")
 cause_text Memory = Some (codes "out of memory")
-cause_text NoThread = Some (codes "no thread")
 
 abbrev pub drop_text : ℕ → List ℕ → List ℕ
 drop_text serial words = codes "tcpserver: drop " ++ decimal serial ++ codes " " ++ words ++ codes "\n"

@@ -332,7 +332,6 @@ fn cause_words(cause: DropCause) -> Option<&'static str>
         DropCause::ReadFault => Some("rules read fault"),
         DropCause::Damaged => Some("rules damaged"),
         DropCause::Memory => Some("out of memory"),
-        DropCause::NoThread => Some("no thread"),
     }
 }
 

@@ -11,7 +11,7 @@ abbrev pub data_alone : ℕ
 data_alone = 540000
 
 abbrev pub addresses_alone : ℕ
-addresses_alone = 3500000
+addresses_alone = 3300000
 
 -- what is left of the limits beside that
 abbrev pub room_of : MemoryLimits → ℕ
@@ -21,10 +21,10 @@ room_of limits = min (limits.data - data_alone) (limits.addresses - addresses_al
 abbrev pub at_once_in : MemoryLimits → ℕ → ℕ
 at_once_in limits start = if nat_lt (room_of limits) (5 * start) then 1 else 4
 
--- what its first connection takes, whose program inherits no variables: 320 KiB, and, if it is pumped, 448 KiB for buffers
+-- what its first connection takes, whose program inherits no variables: 320 KiB, and, if it is pumped, 320 KiB more for buffers
 abbrev pub first_connection : Mode → ℕ
 first_connection HandedOver = 327680
-first_connection Pumped = 786432
+first_connection Pumped = 655360
 
 abbrev pub small_addresses : MemoryLimits → ℕ → Option SmallLimit
 small_addresses limits wanted =

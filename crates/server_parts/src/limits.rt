@@ -80,17 +80,17 @@ const START: usize = 64 * 1024;
 
 const GOING_ON: usize = 32 * 1024;
 
-const BUFFERS: usize = 448 * 1024;
+const BUFFERS: usize = 320 * 1024;
 
 /// What a server takes of data and of address space, in bytes, beside its connections, as `bench/least` measures it.
 const DATA_ALONE: u64 = 540_000;
 
-const ADDRESSES_ALONE: u64 = 3_500_000;
+const ADDRESSES_ALONE: u64 = 3_300_000;
 
 /// What starting a program takes that inherits no variables; and what a connection that is pumped takes beside it: its buffers.
 const START_ALONE: u64 = 327_680;
 
-const PUMPED_ALONE: u64 = 458_752;
+const PUMPED_ALONE: u64 = 327_680;
 
 /// What the system gives the connections of a server in this mode, of which so many may be alive, and whose programs inherit so many variables.
 pub fn supply_for(mode: Mode, connections: u64, variables: usize) -> Supply

@@ -88,6 +88,21 @@ pub struct Lane<E, T> {
     pub tap: T,
 }
 
+/// A program that runs between two pipes.
+pub trait Piped: Job {
+    /// The end of the pipe that the program reads.
+    type Input;
+
+    /// The end of the pipe that it writes.
+    type Output;
+
+    /// Gives the two ends of its pipes, once: what is written into the first the program reads on descriptor 0, and what
+    /// it writes on descriptor 1 is read from the second. `None` if they were given before, or there are none.
+    fn ends(&mut self) -> Option<(Self::Input, Self::Output)>
+        ensures program { Self.program self.new ≡ Self.program self.old }
+        ensures environment { Self.environment self.new ≡ Self.environment self.old };
+}
+
 /// What is on both sides of two pumps: a type for each part. It is a name for these types together, and has no values.
 pub trait Between {
     /// Where the program's input comes from.
@@ -103,7 +118,7 @@ pub trait Between {
     type Output: Read + Drop;
 
     /// The program while it runs.
-    type Job: Job<Input = Self::Input, Output = Self::Output>;
+    type Job: Piped<Input = Self::Input, Output = Self::Output>;
 
     /// What starts it.
     type Launcher: Launcher<Job = Self::Job>;
@@ -193,7 +208,7 @@ where
     ensures output { IfSome result (λ pumps. Drained B.Output.remaining B.Writer.contents
         T.watches T.sees T.ends lanes.1 pumps.1) }
 {
-    let Ok((to, from)) = job.ends() else {
+    let Some((to, from)) = job.ends() else {
         drop(lanes);
         return None;
     };

@@ -1,10 +1,11 @@
 //! Children of this process, waited for until they have ended, and killed.
-ghost use Rattle.std.specs.Prelude.{◌≡◌, ◌↔◌, ◌⊎◌, ℕ, pos, is_some, ⊤, IsSome, Some};
+ghost use Rattle.std.specs.Prelude.{◌≡◌, ◌↔◌, ◌⊎◌, ℕ, pos, ⊤, IsSome, Some};
 ghost use Rattle.std.specs.Process.{exit_code, exit_signal};
 ghost use Rattle.libc.specs.Io.{WaitFlags};
 ghost use Rattle.child_jobs.specs.declared.outcome.Status.TheVariants.{Code, Signal};
 
-use child_jobs::{Environment, Exit, Job, NoEnds, Program, Status, WaitFault};
+use crate::between::Piped;
+use child_jobs::{Environment, Exit, Job, Program, Status, WaitFault};
 use std::os::unix::process::ExitStatusExt;
 use std::process::{ChildStdin, ChildStdout, ExitStatus};
 use std::snapshot::Snapshot;
@@ -41,26 +42,26 @@ impl OsJob {
     }
 }
 
-impl Job for OsJob {
+impl Piped for OsJob {
     type Input = ChildStdin;
 
     type Output = ChildStdout;
 
+    fn ends(&mut self) -> Option<(ChildStdin, ChildStdout)> {
+        self.ends.take()
+    }
+}
+
+impl Job for OsJob {
     ghost program = { λ job. job.program.value };
 
     ghost environment = { λ job. job.environment.value };
-
-    ghost has_ends = { λ job. is_some job.ends };
 
     ghost killed = { λ _ _ _. ⊤ };
 
     ghost ended = { λ _ _. ⊤ };
 
     ghost refused_wait = { λ _ _ _. ⊤ };
-
-    fn ends(&mut self) -> Result<(ChildStdin, ChildStdout), NoEnds> {
-        self.ends.take().ok_or(NoEnds)
-    }
 
     fn kill(&mut self) -> Result<(), WaitFault> {
         if self.gone || os::kill_child(self.number) < 0 {
@@ -73,8 +74,8 @@ impl Job for OsJob {
         u32::try_from(self.number).ok()
     }
 
+    /// As of the trait. Pipe ends that were not given are closed first: a program that waits for input could not end.
     fn wait(mut self) -> Result<Exit, (OsJob, WaitFault)> {
-        // a program that waits for input could not end
         drop(self.ends.take());
         if let Some(exit) = self.exit {
             self.abandon();

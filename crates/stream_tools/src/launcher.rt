@@ -1,5 +1,5 @@
 //! What starts programs of the system, as jobs.
-ghost use Rattle.std.specs.Prelude.{◌≡◌, false, ⊤, IfOk, true};
+ghost use Rattle.std.specs.Prelude.{◌≡◌, ⊤, IfOk, true};
 
 use crate::job::OsJob;
 use crate::process::{not_started, start_process};
@@ -44,7 +44,6 @@ impl<'a, P: Processes> OsLauncher<'a, P> {
     ) -> Result<OsJob, NotStarted>
         ensures program { IfOk result (λ job. ⟦<OsJob as Job>⟧.program job ≡ program.now) }
         ensures environment { IfOk result (λ job. ⟦<OsJob as Job>⟧.environment job ≡ environment.now) }
-        ensures no_ends { IfOk result (λ job. ⟦<OsJob as Job>⟧.has_ends job ≡ false) }
     {
         let number = stream.as_raw_fd();
         self.start_over(alloc, (program, environment), (number, number), None)

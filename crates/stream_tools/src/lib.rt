@@ -16,14 +16,12 @@ pub mod launcher;
 pub mod process;
 pub mod recordio;
 pub mod search;
-pub mod shared;
 pub mod started;
 pub mod tools;
 
-pub use between::{Between, BetweenFailure, BetweenFault, Lane, RunEnd, run_between};
+pub use between::{Between, BetweenFailure, BetweenFault, Lane, Piped, RunEnd, run_between};
 pub use filter::{FilterFault, add_returns, delete_returns};
 pub use job::OsJob;
 pub use launcher::OsLauncher;
 pub use search::SearchPath;
-pub use shared::SharedWriter;
 pub use tools::{run_fixcrio, run_recordio};

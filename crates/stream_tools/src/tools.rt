@@ -5,7 +5,6 @@ use crate::job::OsJob;
 use crate::launcher::OsLauncher;
 use crate::recordio::record_between;
 use crate::search::SearchPath;
-use crate::shared::SharedWriter;
 use crate::started::{SystemGiven, inherited_variables, program_of};
 use byte_streams::{Patient, Watch};
 use child_jobs::{Environment, Program, Status};
@@ -18,7 +17,7 @@ use std::net::Net;
 use std::os::fd::{AsRawFd, RawFd};
 use std::process::{ChildStdin, ChildStdout, Processes};
 use std::rt::Env;
-use std::sync::{Mutex, Wait};
+use std::sync::Wait;
 use std::thread::Threads;
 use std::time::Clock;
 
@@ -90,7 +89,7 @@ where
     Ok(end?.status)
 }
 
-/// Runs a program, and records what goes both ways on `errors`.
+/// Runs a program, and records what goes both ways on `errors`: each record by one write, so that it stands together.
 ///
 /// # Errors
 /// As of `record_between`.
@@ -98,17 +97,13 @@ pub fn run_recordio<R, E>(rt: &R, errors: E, words: &[Vec<u8>]) -> Result<Status
 where
     R: Env + Input + Print + AllocGlobal + Processes + Threads + Wait + Sync + Clock + Net + Files,
     R::Reader: Send,
-    E: Write + Send + Drop,
+    E: Write + Copy + Send + Drop,
 {
     let alloc = rt.alloc();
     let told = ToldRun::by_words(alloc, rt, words)?;
     let launcher = OsLauncher::new(rt, &told.search);
     let run = (&told.program, &told.variables);
-    let errors = Mutex::new(errors);
-    let writers = (
-        SharedWriter::new(rt, &errors),
-        SharedWriter::new(rt, &errors),
-    );
+    let writers = (Patient::new(rt, errors), Patient::new(rt, errors));
     let streams = (
         Patient::new(rt, rt.reader()),
         Patient::new(rt, io::writer(rt)),
@@ -123,6 +118,5 @@ where
         |pipe| { Watch::new(alloc, rt, STANDARD_INPUT, pipe.as_raw_fd()) },
     );
     drop(told);
-    drop(errors);
     Ok(end?.status)
 }

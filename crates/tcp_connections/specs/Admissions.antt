@@ -9,13 +9,13 @@ use Rattle.tcp_connections.specs.declared.supply.Memory.{Memory}
 use Rattle.tcp_connections.specs.declared.supply.Supply.{Supply}
 
 -- what came of a connection, by how many were let in before and after it; nothing is said once no number is left
-abbrev pub LetsIn : {T E : Type 0} → Result T (Refused E) → (old new : ℕ) → Type 0
+abbrev pub LetsIn : {T : Type 0} → Result T Refused → (old new : ℕ) → Type 0
 LetsIn (Ok work) old new = new ≡ old + 1
-LetsIn (Err (Once why)) old new = new ≡ old
+LetsIn (Err Once) old new = new ≡ old
 LetsIn (Err Spent) old new = ⊤
 
 -- what is said once no number is left
-abbrev pub OnSpent : {T E : Type 0} → Result T (Refused E) → Type 0 → Type 0
+abbrev pub OnSpent : {T : Type 0} → Result T Refused → Type 0 → Type 0
 OnSpent (Err Spent) P = P
 OnSpent outcome P = ⊤
 

@@ -10,13 +10,11 @@ pub struct AcceptError {
     pub number: Option<i32>,
 }
 
-/// An accepted connection, with two holders of its stream. It is closed once both are let go.
+/// An accepted connection. It is closed once it is let go.
 #[derive(Drop)]
-pub struct Accepted<S> {
-    /// Writes what the client is sent.
-    pub writer: S,
+pub struct Accepted<X> {
     /// The connection itself, which its program is started with.
-    pub stream: S,
+    pub connection: X,
     /// The client's IPv4 address.
     pub ip: [u8; 4],
     /// The client's port.
@@ -25,17 +23,14 @@ pub struct Accepted<S> {
     pub local: Local,
 }
 
-/// Where connections come from, for many threads at once.
+/// Where connections come from.
 pub trait Acceptor {
     /// A connection that came.
     type Came: Send + Drop;
 
-    /// Waits for the next connection. Each connection is given to one of the threads that wait.
+    /// Waits for the next connection.
     ///
     /// # Errors
     /// There is no connection; the call may be made again.
     fn accept(&self) -> Result<Self::Came, AcceptError>;
-
-    /// Ends the waits of all threads, whose calls fail then, as do those that follow.
-    fn wake(&self);
 }

@@ -18,10 +18,10 @@ pub enum ServeEnd {
 }
 
 /// That a connection was refused.
-#[derive(Drop)]
-pub enum Refused<E> {
-    /// Only this one was, for this reason: others may be let in.
-    Once(E),
+#[derive(Clone, Copy)]
+pub enum Refused {
+    /// Only this one was: others may be let in.
+    Once,
     /// This one was, and so are all that follow: the last serial number, or the last number of an event, was used.
     Spent,
 }
@@ -53,7 +53,7 @@ pub trait Admission {
     ///
     /// # Errors
     /// It was refused, and is closed.
-    fn admit(&mut self, came: Self::Came) -> Result<Self::Work, Refused<()>>
+    fn admit(&mut self, came: Self::Came) -> Result<Self::Work, Refused>
         ensures its { IfOk result (is_its came) }
         ensures came { LetsIn result (let_in self.old) (let_in self.new) }
         ensures spent { OnSpent result (IsTrue (is_spent self.new)) };

@@ -1,58 +1,31 @@
-//! The door: the value under whose lock connections are let in.
+//! The door: the value under whose lock connections are accepted and let in.
 ghost use Rattle.std.specs.Option.{ForSome};
 ghost use Rattle.std.specs.Prelude.{◌≡◌, ◌≢◌, ◌⊎◌, ◌+◌, ◌≤◌, None, Some, true, false, IfSome, IsTrue, min};
 ghost use Rattle.tcp_connections.specs.Admissions.{EndsAtCount, LetsInAtMost};
 ghost use Rattle.tcp_connections.specs.declared.admission.ServeEnd.TheVariants.{AcceptFaults, Count, NoPlaces, Spent};
 
-use crate::accepting::AcceptError;
+use crate::accepting::{AcceptError, Acceptor};
 use crate::admission::{Admission, Refused, ServeEnd};
+use crate::means::{Permit, pause_after};
 use crate::supply::Supply;
 use std::time::Duration;
 
 /// How many faults of accepting in succession end a server.
 const FAULTS: u32 = 100;
 
-/// How many milliseconds a server without descriptors or memory for a connection waits before it tries again, at first
-/// and at most. Each pause is twice the one before it, so a hundred in succession take over a minute.
-const FIRST_PAUSE: u64 = 10;
-
-const LONGEST_PAUSE: u64 = 1_000;
-
 /// The system's numbers for want of descriptors (`EMFILE`) and of memory (`ENOMEM`).
 const TOO_MANY_OPEN_FILES: i32 = 24;
 
 const NO_MEMORY: i32 = 12;
-
-/// A pause before something is tried again, in milliseconds: each is twice the one before it.
-#[derive(Clone, Copy)]
-pub(crate) struct Pause {
-    milliseconds: u64,
-}
-
-impl Pause {
-    /// The pause after the first fault.
-    pub fn first() -> Pause {
-        Pause {
-            milliseconds: FIRST_PAUSE,
-        }
-    }
-
-    /// The current pause; the next one is twice as long.
-    pub fn next(&mut self) -> Duration {
-        let pause = self.milliseconds.min(LONGEST_PAUSE);
-        self.milliseconds = pause.saturating_mul(2);
-        Duration::from_millis(pause)
-    }
-}
 
 /// The errors of accepting that came in succession, since the last connection or since the server began.
 #[derive(Clone, Copy)]
 pub struct Errors {
     /// How many, up to a hundred.
     pub count: u32,
-    // how many of them count as faults, and the next pause after one for want of room
+    // how many of them count as faults, and how many were for want of room
     faults: u32,
-    pause: Pause,
+    lacking: u32,
     /// The system's number of the last error that came (`errno`), if it had one; or that of what there was too little of
     /// for one connection.
     pub last: Option<i32>,
@@ -67,7 +40,7 @@ impl Errors {
         Errors {
             count: 0,
             faults: 0,
-            pause: Pause::first(),
+            lacking: 0,
             last: None,
         }
     }
@@ -104,13 +77,15 @@ impl Errors {
     {
         self.count = 0;
         self.faults = 0;
-        self.pause = Pause::first();
+        self.lacking = 0;
     }
 }
 
-/// The door: whoever has its lock lets in one connection that came.
+/// The door: whoever has its lock waits for the next connection, and lets it in.
 #[derive(Drop)]
-pub(crate) struct Door<Q: Admission> {
+pub(crate) struct Door<A, Q: Admission> {
+    // where connections come from; none once nobody is let in any more
+    acceptor: Option<A>,
     admission: Q,
     // how many more are let in before the server ends, if it ends by their number
     left: Option<u32>,
@@ -125,13 +100,14 @@ pub(crate) struct Door<Q: Admission> {
     ghost by_numbers: { end ≡ Some Spent → IsTrue (Q.is_spent admission) },
 }
 
-impl<Q: Admission> Door<Q> {
+impl<A: Acceptor<Came = Q::Came> + Drop, Q: Admission> Door<A, Q> {
     /// A door through which nobody came yet. The server ends once so many were let in.
-    pub fn new(admission: Q, count: Option<u32>) -> Door<Q>
+    pub fn new(acceptor: A, admission: Q, count: Option<u32>) -> Door<A, Q>
         requires nobody { Q.let_in admission ≡ 0 }
         requires count { Q.count ≡ count }
     {
         Door {
+            acceptor: Some(acceptor),
             admission,
             left: count,
             end: None,
@@ -147,8 +123,21 @@ impl<Q: Admission> Door<Q> {
         self.end.is_some() || self.left == Some(0)
     }
 
+    /// Waits for the next connection, if there is what it takes. `None` once the door is closed.
+    pub fn accept(&self, _permit: &Permit) -> Option<Result<Q::Came, AcceptError>> {
+        Some(self.acceptor.as_ref()?.accept())
+    }
+
+    /// Drops the acceptor.
+    pub fn close(&mut self)
+        ensures end { self.new.end ≡ self.old.end }
+        ensures same { self.new.errors ≡ self.old.errors }
+    {
+        self.acceptor = None;
+    }
+
     /// Lets a connection in, if it is not refused. It ends the succession of errors.
-    pub fn admit(&mut self, came: Q::Came) -> Option<Q::Work>
+    pub fn admit(&mut self, _permit: &Permit, came: Q::Came) -> Option<Q::Work>
         requires open { self.old.end ≡ None }
         requires more { self.old.left ≢ Some 0 }
         ensures its { IfSome result (Q.is_its came) }
@@ -163,7 +152,7 @@ impl<Q: Admission> Door<Q> {
                 }
                 Some(work)
             }
-            Err(Refused::Once(())) => None,
+            Err(Refused::Once) => None,
             Err(Refused::Spent) => {
                 self.end = Some(ServeEnd::Spent);
                 None
@@ -179,12 +168,13 @@ impl<Q: Admission> Door<Q> {
         self.errors.add(error);
     }
 
-    /// The pause after an error for want of room.
+    /// The pause after one more error for want of room.
     pub fn next_pause(&mut self) -> Duration
         ensures same { self.new.errors.count ≡ self.old.errors.count }
         ensures last { self.new.errors.last ≡ self.old.errors.last }
     {
-        self.errors.pause.next()
+        self.errors.lacking = self.errors.lacking.saturating_add(1);
+        pause_after(self.errors.lacking)
     }
 
     /// Counts a fault of accepting: the last of a hundred ends the server.
@@ -216,7 +206,7 @@ impl<Q: Admission> Door<Q> {
         };
     }
 
-    /// How the server ended, its admission, and the errors of accepting that came last.
+    /// How the server ended, its admission, and the errors of accepting that came last. The acceptor is dropped.
     pub fn into_end(self) -> (ServeEnd, Q, Errors)
         ensures count { EndsAtCount result.0 Q.count (Q.let_in result.1) }
         ensures no_more { LetsInAtMost result.0 Q.count (Q.let_in result.1) }
@@ -227,11 +217,13 @@ impl<Q: Admission> Door<Q> {
         ensures spent { result.0 ≡ Spent → IsTrue (Q.is_spent result.1) }
     {
         let Door {
+            acceptor,
             admission,
             left,
             end,
             errors,
         } = self;
+        drop(acceptor);
         let end = match (end, left) {
             (Some(ServeEnd::Spent), _) => ServeEnd::Spent,
             (_, Some(0)) => ServeEnd::Count,

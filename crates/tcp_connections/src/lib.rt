@@ -1,18 +1,17 @@
 //! TCP connections, without rules and logs: where they come from, the names of their two ends, the workers that accept
 //! and serve them, the start of a child, and the wait for its end.
 //!
-//! The server uses `Workers::serve_through`: if it ends by its count, it let in exactly that many. It alone starts threads. A
-//! connection is a value that each call of `Serving` passes on, or answers as over. Dropping a `GoingOn` ends the
-//! connection too. A worker has a `Permit` before it accepts a connection. `wait_in_rounds` gives a place back only
-//! after a wait that succeeded. Only tests show that one more worker is made if none waits for a connection, that what a
-//! connection takes is there before it is taken, and that a hundred faults of accepting in succession end the server.
+//! The server uses `Workers::serve_through`: if it ends by its count, it let in exactly that many. It alone starts
+//! threads. A connection is a value that each call of `Serving` passes on, or answers as over. Dropping a `GoingOn` ends
+//! the connection too. A worker accepts a connection and lets it in only with a `Permit`, under the lock of the `Door`.
+//! `wait_in_rounds` gives a place back only after a wait that succeeded. Only tests show that one more worker is made if
+//! none waits for a connection, that what a connection takes is there before it is taken, and that a hundred faults of
+//! accepting in succession end the server.
 #![tactic(auto)]
 
 pub mod accepting;
 pub mod admission;
-mod arrivals;
 pub mod door;
-mod handover;
 mod means;
 pub mod names;
 pub mod rounds;

@@ -3,8 +3,19 @@ use crate::supply::Supply;
 use std::sync::{Condvar, CondvarTimeouts, Mutex, MutexGuard, Wait};
 use std::time::{Clock, Duration};
 
+/// How many milliseconds a server waits before it tries again for what it lacks, at first and at most. Each pause is twice
+/// the one before it, for so many times: a hundred in succession take over a minute.
+const FIRST_PAUSE: u64 = 10;
+
+const LONGEST_PAUSE: u64 = 1_000;
+
+const DOUBLED: u32 = 7;
+
 /// Once so many connections are served, another one is one of many.
 const MANY: u64 = 32;
+
+/// How often a server tries to make its first worker, over some two seconds.
+const TRIES: u32 = 9;
 
 /// What there is for workers and their connections. A worker is at the door while it waits for a connection, or for
 /// what one takes.
@@ -23,141 +34,90 @@ pub(crate) struct Means {
 // What workers and connections have.
 #[derive(Clone, Copy)]
 struct Held {
-    // how many workers there are, and how many of them are at the door
+    // how many workers there are, how many of them are at the door, and how often in succession none could be made
     workers: u64,
     at_door: u64,
-    // how many connections are alive, including those that are waited for; how many of these have no child yet, how
-    // many are waited for, and how many are retired. What makes room, or shows that there is some, adds one to
-    // `changes`
+    failures: u32,
+    // how many connections are alive, with the one that is waited for; how many of these have no program yet, and how
+    // many are retired
     alive: u64,
     beginning: u64,
-    awaited: u64,
     retired: u64,
-    changes: u64,
-    // how many descriptors are left
-    descriptors: u64,
-    // how many connections may come still, if the server ends by a count; those that are waited for are taken off
-    left: Option<u64>,
+    // how often a permit was given back
+    given_back: u64,
+    // a worker is being made; if memory is limited, no connection begins meanwhile
+    is_expected: bool,
     is_over: bool,
 }
 
-/// What a connection takes: its room, and its descriptors. A worker has it before it accepts one, and it is given back
-/// once that one is over.
+/// The right to one connection: there is what it takes. A worker has it before it accepts one, and it is given back once
+/// that one is over.
 pub(crate) struct Permit {
-    descriptors: u64,
-    // whether the connection has no child yet
+    // whether the connection has no program yet
     begins: bool,
+}
+
+/// How long something is not tried again that has failed so often in succession.
+pub(crate) fn pause_after(failures: u32) -> Duration {
+    let longer = FIRST_PAUSE << failures.saturating_sub(1).min(DOUBLED);
+    Duration::from_millis(longer.min(LONGEST_PAUSE))
 }
 
 impl Held {
     // How many connections are served.
     fn served(&self) -> u64 {
-        self.alive
-            .saturating_sub(self.awaited.saturating_add(self.retired))
+        self.alive.saturating_sub(self.retired)
     }
 
-    // Whether there is what one more connection takes.
+    // How many descriptors connections have.
+    fn descriptors(&self, supply: Supply) -> u64 {
+        let going_on = self.served().saturating_sub(self.beginning);
+        let to_begin = self.beginning.saturating_mul(supply.to_begin);
+        to_begin.saturating_add(going_on.saturating_mul(supply.to_go_on))
+    }
+
+    // Whether there is what one more connection takes, where so many may be alive.
     fn has_room(&self, most: u64, supply: Supply) -> bool {
+        let descriptors = self.descriptors(supply).saturating_add(supply.to_begin);
         self.alive < most
-            && self.descriptors >= supply.to_begin
+            && descriptors <= supply.descriptors
             && self.beginning < supply.at_once()
-            && self.left != Some(0)
+            && !(self.is_expected && supply.memory.is_some())
     }
 
-    // Whether nobody more can be let in, if there may be this many connections: the server is over, or all are retired.
+    // Whether nobody more can be let in, where so many may be alive: the server is over, all are retired, or there is no
+    // worker, and there can be none.
     fn has_ended(&self, most: u64) -> bool {
-        self.is_over || self.retired >= most
+        let has_no_worker = self.workers == 0 && self.failures >= TRIES;
+        self.is_over || self.retired >= most || has_no_worker
     }
 
-    // Whether one more worker is wanted, if there may be this many.
+    // Whether one more worker is wanted, where there may be so many.
     fn wants_worker(&self, most: u64) -> bool {
-        self.at_door == 0 && self.workers < most && self.left != Some(0)
+        self.at_door == 0 && self.workers < most
     }
 
-    // A worker is at the door, a new one or one that comes back.
-    fn come_to_door(&mut self, is_new: bool) {
-        if is_new {
-            self.workers = self.workers.saturating_add(1);
-        }
-        self.at_door = self.at_door.saturating_add(1);
-    }
-
-    // Takes what a connection takes that is waited for.
-    fn take(&mut self, descriptors: u64) -> Permit {
-        self.alive = self.alive.saturating_add(1);
-        self.beginning = self.beginning.saturating_add(1);
-        self.awaited = self.awaited.saturating_add(1);
-        self.descriptors = self.descriptors.saturating_sub(descriptors);
-        self.left = self.left.map(|left| left.saturating_sub(1));
-        Permit {
-            descriptors,
-            begins: true,
-        }
-    }
-
-    // The connection that was waited for was let in, and its worker leaves the door.
-    fn come_in(&mut self) {
-        self.awaited = self.awaited.saturating_sub(1);
-        self.at_door = self.at_door.saturating_sub(1);
-        self.changes = self.changes.wrapping_add(1);
-    }
-
-    // Takes back what a connection has of it, but for its room.
+    // A connection has its program, or there is none any more.
     fn take_back(&mut self, permit: Permit) {
-        let Permit {
-            descriptors,
-            begins,
-        } = permit;
-        self.descriptors = self.descriptors.saturating_add(descriptors);
+        let Permit { begins } = permit;
         if begins {
             self.beginning = self.beginning.saturating_sub(1);
-        }
-    }
-
-    // The connection that was waited for did not come, or was not let in.
-    fn give_back(&mut self, permit: Permit) {
-        self.awaited = self.awaited.saturating_sub(1);
-        self.left = self.left.map(|left| left.saturating_add(1));
-        self.alive = self.alive.saturating_sub(1);
-        self.take_back(permit);
-    }
-
-    // The child of a connection runs: it has no more than so many descriptors from now on.
-    fn begin(&mut self, permit: Permit, to_go_on: u64) -> Permit {
-        let descriptors = permit.descriptors.min(to_go_on);
-        self.take_back(permit);
-        self.descriptors = self.descriptors.saturating_sub(descriptors);
-        Permit {
-            descriptors,
-            begins: false,
-        }
-    }
-
-    // A connection is over, or retired: then its room is never free again.
-    fn end(&mut self, permit: Permit, is_retired: bool) {
-        self.take_back(permit);
-        self.changes = self.changes.wrapping_add(1);
-        if is_retired {
-            self.retired = self.retired.saturating_add(1);
-        } else {
-            self.alive = self.alive.saturating_sub(1);
         }
     }
 }
 
 impl Means {
-    /// All of it is free, for at most `most` connections at once and `count` in all. There are no workers yet.
-    pub fn new(supply: Supply, most: u64, count: Option<u32>) -> Means {
+    /// All of it is free, for at most `most` connections at once. There are no workers yet.
+    pub fn new(supply: Supply, most: u64) -> Means {
         let held = Held {
             workers: 0,
             at_door: 0,
+            failures: 0,
             alive: 0,
             beginning: 0,
-            awaited: 0,
             retired: 0,
-            changes: 0,
-            descriptors: supply.descriptors,
-            left: count.map(u64::from),
+            given_back: 0,
+            is_expected: false,
             is_over: false,
         };
         Means {
@@ -169,58 +129,53 @@ impl Means {
         }
     }
 
-    /// How many workers there are.
-    pub fn workers<R: Wait>(&self, rt: &R) -> u64 {
-        self.held.lock(rt).workers
-    }
-
-    /// A worker is at the door, a new one or one that comes back.
-    pub fn come_to_door<R: Wait>(&self, rt: &R, is_new: bool) {
-        self.held.lock(rt).come_to_door(is_new);
-    }
-
-    /// Waits at the door until there is what one more connection takes, and takes it. `None` once nobody is let in any
-    /// more.
+    /// Waits until there is what one more connection takes, and takes it. `None` once nobody is let in any more.
     pub fn take<R: Wait>(&self, rt: &R) -> Option<Permit> {
         let (most, supply) = (self.most, self.supply);
         let mut held = self.freed.wait_while(rt, self.held.lock(rt), |held| {
-            !held.is_over && !held.has_room(most, supply)
+            !held.has_ended(most) && !held.has_room(most, supply)
         });
-        if held.is_over {
+        if held.has_ended(most) {
             return None;
         }
-        Some(held.take(supply.to_begin))
+        held.alive = held.alive.saturating_add(1);
+        held.beginning = held.beginning.saturating_add(1);
+        Some(Permit { begins: true })
     }
 
-    /// The connection that was waited for did not come, or was not let in. Its worker is at the door still.
-    pub fn give_back<R: Wait>(&self, rt: &R, permit: Permit) {
+    /// A worker is at the door again.
+    pub fn come_to_door<R: Wait>(&self, rt: &R) {
         let mut held = self.held.lock(rt);
-        held.give_back(permit);
+        held.at_door = held.at_door.saturating_add(1);
+    }
+
+    /// A worker leaves the door with a connection: if it was the last one there, whoever makes workers is woken.
+    pub fn leave_door<R: Wait>(&self, rt: &R) {
+        let mut held = self.held.lock(rt);
+        held.at_door = held.at_door.saturating_sub(1);
         self.free(held);
     }
 
-    /// The connection that was waited for was let in. Its worker leaves the door: if it was the last one there, whoever
-    /// makes workers is woken.
-    pub fn came<R: Wait>(&self, rt: &R) {
-        let mut held = self.held.lock(rt);
-        held.come_in();
-        self.free(held);
-    }
-
-    /// The child of a connection runs: what it took only for its start is free again. Whether it is one of many is told
+    /// The program of a connection runs: what it took only for its start is free again. Whether it is one of many is told
     /// beside what it has still.
     pub fn began<R: Wait>(&self, rt: &R, permit: Permit) -> (Permit, bool) {
         let mut held = self.held.lock(rt);
-        let permit = held.begin(permit, self.supply.to_go_on);
+        held.take_back(permit);
         let is_one_of_many = held.served() > MANY;
         self.free(held);
-        (permit, is_one_of_many)
+        (Permit { begins: false }, is_one_of_many)
     }
 
-    /// A connection is over, or retired.
-    pub fn ended<R: Wait>(&self, rt: &R, permit: Permit, is_retired: bool) {
+    /// A connection did not come, was not let in, or is over, or it is retired: then its room is never free again.
+    pub fn give_back<R: Wait>(&self, rt: &R, permit: Permit, is_retired: bool) {
         let mut held = self.held.lock(rt);
-        held.end(permit, is_retired);
+        held.take_back(permit);
+        held.given_back = held.given_back.wrapping_add(1);
+        if is_retired {
+            held.retired = held.retired.saturating_add(1);
+        } else {
+            held.alive = held.alive.saturating_sub(1);
+        }
         self.free(held);
     }
 
@@ -245,68 +200,77 @@ impl Means {
     pub fn wait_for_ends<R: Wait>(&self, rt: &R) {
         drop(
             self.freed
-                .wait_while(rt, self.held.lock(rt), |held| held.alive > held.retired),
+                .wait_while(rt, self.held.lock(rt), |held| held.served() > 0),
         );
     }
 
-    /// Waits until one more worker is wanted. `false` once nobody more can be let in.
-    pub fn wait_for_want<R: Wait>(&self, rt: &R) -> bool {
+    /// Waits until it is known whether the last worker stays, for a while if none could be made last, and until one more is
+    /// wanted. `false` once nobody more can be let in.
+    pub fn wait_for_want<R: Wait + Clock>(&self, rt: &R) -> bool {
         let most = self.most;
-        let held = self.wanted.wait_while(rt, self.held.lock(rt), |held| {
+        let mut held = self
+            .wanted
+            .wait_while(rt, self.held.lock(rt), |held| held.is_expected);
+        if held.failures > 0 {
+            let pause = pause_after(held.failures);
+            let (later, _) = self
+                .wanted
+                .wait_timeout_while(rt, held, pause, |held| !held.has_ended(most));
+            held = later;
+        }
+        let held = self.wanted.wait_while(rt, held, |held| {
             !held.has_ended(most) && !held.wants_worker(most)
         });
         !held.has_ended(most)
     }
 
-    /// Waits before the next try to make a thread, but no longer once nobody can be served any more.
-    pub fn pause<R: Wait + Clock>(&self, rt: &R, pause: Duration) {
-        let most = self.most;
-        let held = self.held.lock(rt);
-        drop(
-            self.wanted
-                .wait_timeout_while(rt, held, pause, |held| !held.has_ended(most)),
-        );
-    }
-
-    /// How many connections have no child yet. If memory is limited, it first waits until there is none, and lets none
-    /// begin until `let_begin`. So a look for memory takes none that they need.
-    pub fn hold_up<R: Wait>(&self, rt: &R) -> u64 {
-        let is_limited = self.supply.memory.is_some();
-        let mut held = self.freed.wait_while(
-            rt,
-            self.held.lock(rt),
-            |held| is_limited && held.beginning > 0 && !held.is_over,
-        );
-        let beginning = held.beginning;
-        if is_limited {
-            held.beginning = self.supply.at_once();
+    /// A worker is to be made: it counts as one that is at the door. It answers how many there are with it, and how many
+    /// connections have no program yet. If memory is limited, it first waits until each has one, and lets none begin until
+    /// it is known whether the worker stays. So a look for memory takes none that they need. `None` once nobody more can
+    /// be let in.
+    pub fn expect_worker<R: Wait>(&self, rt: &R) -> Option<(u64, u64)> {
+        let (most, is_limited) = (self.most, self.supply.memory.is_some());
+        let mut held = self.freed.wait_while(rt, self.held.lock(rt), |held| {
+            is_limited && held.beginning > 0 && !held.has_ended(most)
+        });
+        if held.has_ended(most) {
+            return None;
         }
-        beginning
+        held.is_expected = true;
+        held.workers = held.workers.saturating_add(1);
+        held.at_door = held.at_door.saturating_add(1);
+        Some((held.workers, held.beginning))
     }
 
-    /// After `hold_up`, connections may begin again.
-    pub fn let_begin<R: Wait>(&self, rt: &R) {
-        if self.supply.memory.is_some() {
-            let mut held = self.held.lock(rt);
-            held.beginning = 0;
-            self.free(held);
+    /// The worker that was to be made stays, or there is none.
+    pub fn worker_came<R: Wait>(&self, rt: &R, stays: bool) {
+        let mut held = self.held.lock(rt);
+        held.is_expected = false;
+        if stays {
+            held.failures = 0;
+        } else {
+            held.failures = held.failures.saturating_add(1);
+            held.workers = held.workers.saturating_sub(1);
+            held.at_door = held.at_door.saturating_sub(1);
         }
+        self.free(held);
+        self.wanted.notify_all();
     }
 
-    /// Waits for a pause, but no longer once a connection was let in or is over, or nobody is let in any more. If no
-    /// connection is served and some may come, it answers `false` at once.
+    /// Waits for a pause, but no longer once a connection is over, or nobody is let in any more. If no connection is
+    /// served and some may come, it answers `false` at once.
     pub fn wait_for_change<R: Wait + Clock>(&self, rt: &R, pause: Duration) -> bool {
         let held = self.held.lock(rt);
         if held.served() == 0 && !held.is_over {
             return false;
         }
-        let before = held.changes;
+        let before = held.given_back;
         drop(
             self.freed.wait_timeout_while(
                 rt,
                 held,
                 pause,
-                |held| held.changes == before && !held.is_over,
+                |held| held.given_back == before && !held.is_over,
             ),
         );
         true

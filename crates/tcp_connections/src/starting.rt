@@ -1,13 +1,16 @@
 //! Starts the programs of connections.
 ghost use Rattle.std.specs.Prelude.{◌≡◌, IfOk, IfErr, IsTrue, Bool};
+ghost use Rattle.std.specs.Io.{WritesAtMost};
 ghost use Rattle.child_jobs.specs.Programs.{ProgramText};
 ghost use Rattle.child_jobs.specs.declared.outcome.NotStarted.{NotStarted as Refusal};
 ghost use Rattle.child_jobs.specs.Variables.{Variables};
 
 use child_jobs::{Environment, Job, Launcher, NotStarted, Program};
 use std::alloc::Global;
+use std::io;
+use std::io::Write;
 
-/// Starts the programs of connections. An `X` is a connection.
+/// Starts the programs of connections, and sends what comes before them. An `X` is a connection.
 pub trait Starter<X> {
     /// What it starts.
     type Job: Job;
@@ -19,6 +22,14 @@ pub trait Starter<X> {
     /// Why it may refuse to start a program with these variables for a connection. A starter of which nothing is known
     /// may answer anything.
     ghost refuses: { Self → X → ProgramText → Variables → Refusal → Type 0 };
+
+    /// Sends the client of a connection some of these bytes, and answers how many. It waits as long as the client takes
+    /// none.
+    ///
+    /// # Errors
+    /// The connection's own; or its program has it by now.
+    fn send(&self, connection: &X, bytes: &[u8]) -> io::Result<usize>
+        ensures bound { WritesAtMost result bytes.now };
 
     /// Starts a program for a connection, with these variables and no others.
     ///
@@ -37,7 +48,7 @@ pub trait Starter<X> {
         ensures environment { IfOk result (λ job. Self.Job.environment job ≡ environment.now) };
 }
 
-/// The launcher of one connection, whose program it starts once.
+/// The launcher of one connection, whose program it starts once. What is written to it the client is sent.
 #[derive(Drop)]
 pub struct ConnectionLauncher<'a, S, X> {
     /// Starts its program.
@@ -61,5 +72,15 @@ impl<S: Starter<X>, X> Launcher for ConnectionLauncher<'_, S, X> {
     ) -> Result<S::Job, NotStarted> {
         self.starter
             .start_for(alloc, self.connection, program, environment)
+    }
+}
+
+impl<S: Starter<X>, X> Write for ConnectionLauncher<'_, S, X> {
+    fn write(&mut self, buf: &[u8]) -> io::Result<usize> {
+        self.starter.send(self.connection, buf)
+    }
+
+    fn flush(&mut self) -> io::Result<()> {
+        Ok(())
     }
 }

@@ -2,10 +2,9 @@
 ghost use Rattle.std.specs.Prelude.{◌≡◌};
 ghost use Rattle.tcp_connections.specs.Admissions.{suffices};
 
-use crate::handover::Handover;
 use std::alloc::Global;
-use std::sync::Wait;
 use std::sync::atomic::{AtomicUsize, Ordering};
+use std::sync::{Condvar, Mutex, Wait};
 
 /// By how many bytes a look for memory asks for more than the last one: two pages.
 const MORE: usize = 8 * 1024;
@@ -69,7 +68,7 @@ impl Supply {
 pub(crate) struct MemoryLook {
     alloc: Global,
     supply: Supply,
-    // how many bytes the last look found
+    // how many bytes the last look found, if it succeeded
     found: AtomicUsize,
 }
 
@@ -114,9 +113,8 @@ impl MemoryLook {
             .saturating_add(beside)
             .max(more);
         let is_there = Vec::<u8>::with_capacity(self.alloc, all).is_ok();
-        if is_there {
-            self.found.store(all, Ordering::SeqCst);
-        }
+        let found = if is_there { all } else { 0 };
+        self.found.store(found, Ordering::SeqCst);
         is_there
     }
 
@@ -134,24 +132,35 @@ impl MemoryLook {
 /// processes before it makes a thread. If memory is low, there is no reserve from the start.
 #[derive(Drop)]
 pub struct Reserve {
-    pub(crate) end: Handover<()>,
+    is_gone: Mutex<bool>,
+    given_back: Condvar,
 }
 
 impl Reserve {
     /// A reserve that is not given back yet.
     pub fn new() -> Reserve {
         Reserve {
-            end: Handover::new(),
+            is_gone: Mutex::new(false),
+            given_back: Condvar::new(),
         }
     }
 
     /// Gives it back: its thread ends.
     pub fn give_back<R: Wait>(&self, rt: &R) {
-        self.end.close(rt);
+        *self.is_gone.lock(rt) = true;
+        self.given_back.notify_all();
     }
 
     /// Whether it was given back.
     pub fn is_gone<R: Wait>(&self, rt: &R) -> bool {
-        self.end.is_closed(rt)
+        *self.is_gone.lock(rt)
+    }
+
+    /// Waits until it is given back, as its thread does.
+    pub(crate) fn wait<R: Wait>(&self, rt: &R) {
+        drop(
+            self.given_back
+                .wait_while(rt, self.is_gone.lock(rt), |is_gone| !*is_gone),
+        );
     }
 }

@@ -2,8 +2,8 @@
 ghost use Rattle.std.specs.Thread.{IsSend, IsSync};
 
 use crate::admission::Serving;
-use crate::handover::Handover;
 use crate::means::{Means, Permit};
+use crate::supply::Reserve;
 use std::sync::Wait;
 use std::thread;
 use std::thread::{Builder, Scope, Threads};
@@ -37,7 +37,7 @@ impl<R: Wait, V: Serving> Drop for GoingOn<'_, R, V> {
             permit,
         } = self;
         let over = server.finish(alive);
-        means.ended(rt, permit, server.is_retired(&over));
+        means.give_back(rt, permit, server.is_retired(&over));
     }
 }
 
@@ -58,18 +58,18 @@ where
     );
 }
 
-/// Starts a thread that only waits until `end` is closed. Whether the system had one.
+/// Starts a thread that only waits until the reserve is given back. Whether the system had one.
 pub(crate) fn start_waiting<'a: 's, 's, 'e, R: Wait + Sync + 's>(
     scope: &Scope<'s, &'e ()>,
     rt: &'a R,
-    end: &'a Handover<()>,
+    reserve: &'a Reserve,
 ) -> bool {
     connection_thread()
         .spawn_scoped(
             scope,
             move ||
                 requires { IsSync R.row }
-            { drop(end.take(rt)) },
+            { reserve.wait(rt) },
         )
         .is_ok()
 }
@@ -77,8 +77,8 @@ pub(crate) fn start_waiting<'a: 's, 's, 'e, R: Wait + Sync + 's>(
 /// Whether this many processes could be made now. The system counts threads with processes, so this many threads are
 /// made, and end at once.
 pub(crate) fn has_processes<R: Threads + Wait + Sync>(rt: &R, count: u64) -> bool {
-    let end = Handover::new();
-    let end = &end;
+    let reserve = Reserve::new();
+    let reserve = &reserve;
     thread::scope(
         thread::scope_env(),
         rt,
@@ -87,11 +87,11 @@ pub(crate) fn has_processes<R: Threads + Wait + Sync>(rt: &R, count: u64) -> boo
         {
             let mut made = 0u64;
             for _ in 0..count {
-                if start_waiting(scope, rt, end) {
+                if start_waiting(scope, rt, reserve) {
                     made = made.saturating_add(1);
                 }
             }
-            end.close(rt);
+            reserve.give_back(rt);
             made == count
         },
     )

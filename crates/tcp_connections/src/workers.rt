@@ -1,25 +1,20 @@
 //! Workers: each lets one connection after another in, and serves it up to the start of its program or to its end.
-ghost use Rattle.std.specs.Prelude.{◌≡◌, ◌⊎◌, IsTrue, Some};
+ghost use Rattle.std.specs.Prelude.{◌≡◌, ◌≢◌, ◌⊎◌, IsTrue, None, Some};
 ghost use Rattle.std.specs.Thread.{IsSend, IsSync};
 ghost use Rattle.tcp_connections.specs.Admissions.{EndsAtCount, FailedToAccept, LetsInAtMost, suffices};
 ghost use Rattle.tcp_connections.specs.declared.admission.ServeEnd.TheVariants.{AcceptFaults, Count, NoPlaces, Spent};
 
-use crate::accepting::Acceptor;
+use crate::accepting::{AcceptError, Acceptor};
 use crate::admission::{Admission, ServeEnd, Serving};
-use crate::arrivals::Arrivals;
-use crate::door::{Door, Errors, Pause};
-use crate::handover::Handover;
+use crate::door::{Door, Errors};
 use crate::means::{Means, Permit};
 use crate::supply::{MemoryLook, Reserve, Supply};
 use crate::threads::{GoingOn, connection_thread, has_processes, start_going_on, start_waiting};
 use std::alloc::Global;
-use std::sync::Wait;
+use std::sync::{Mutex, Wait};
 use std::thread;
 use std::thread::{Scope, Threads};
 use std::time::Clock;
-
-/// How often a server tries to make its first worker, over some two and a half seconds.
-const TRIES: u32 = 8;
 
 /// For at most this many programs, the server looks whether there are processes before it makes a worker. If there are
 /// too few, the last programs wait for those before them.
@@ -30,12 +25,11 @@ const PROCESSES: u64 = 4;
 pub struct Workers<'a, R, V: Serving, A> {
     rt: &'a R,
     server: &'a V,
-    arrivals: Arrivals<A, V::Entrance>,
+    // whoever has its lock waits for the next connection, and lets it in
+    door: Mutex<Door<A, V::Entrance>>,
     memory: MemoryLook,
     // whether there is memory for a process in reserve
     has_reserve: bool,
-    // whether the worker that was made stays
-    came_up: Handover<bool>,
     means: &'a Means,
     reserve: &'a Reserve,
 }
@@ -50,7 +44,7 @@ where
     R: Threads + Wait + Clock + Sync,
     V: Serving + Sync,
     V::Entrance: Admission<Came = A::Came> + Send + Drop,
-    A: Acceptor + Send + Sync + Drop,
+    A: Acceptor + Send + Drop,
 {
     /// Lets connections of `acceptor` in until `count` were let in or no more can be. Then it drops the acceptor, waits
     /// until all that were let in are over, and gives `entrance` back with the errors of accepting that came last. At most
@@ -90,20 +84,19 @@ where
                 Errors::of_too_little(&supply),
             );
         }
-        let means = Means::new(supply, most, count);
+        let means = Means::new(supply, most);
         let workers = Workers {
             rt,
             server,
-            arrivals: Arrivals::new(acceptor, Door::new(entrance, count)),
+            door: Mutex::new(Door::new(acceptor, entrance, count)),
             memory: MemoryLook::new(alloc, supply),
             has_reserve: supply.has_reserve(),
-            came_up: Handover::new(),
             means: &means,
             reserve,
         };
         workers.run();
-        let Workers { arrivals, .. } = workers;
-        arrivals.into_end()
+        let Workers { door, .. } = workers;
+        door.into_inner().into_end()
     }
 
     // Lets connections in until the server comes to an end, and waits until all that were let in are over.
@@ -114,51 +107,40 @@ where
             workers.rt,
             move |scope|
                 requires { IsSync R.row × IsSync V.row × IsSend V.Entrance.row × IsSend V.Alive.row
-                    × IsSend A.row × IsSync A.row }
+                    × IsSend A.row }
             {
-                if !workers.has_reserve || !start_waiting(scope, workers.rt, &workers.reserve.end) {
+                if !workers.has_reserve || !start_waiting(scope, workers.rt, workers.reserve) {
                     workers.reserve.give_back(workers.rt);
                 }
-                workers.arrivals.end_if_over(workers.rt, workers.means);
                 workers.make_workers(scope);
                 workers.reserve.give_back(workers.rt);
             },
         );
     }
 
-    // Makes one more worker whenever none is at the door, until nobody more can be let in. If a worker can't be made, it
-    // pauses and tries again. A server that can't make its first worker ends.
+    // Makes one more worker whenever none is at the door, until nobody more can be let in. Then the server ends, if it has
+    // not before.
     fn make_workers<'s, 'e>(&'s self, scope: &'s Scope<'s, &'e ()>) {
-        let (mut pause, mut left, mut is_made) = (Pause::first(), TRIES, false);
         for _ in self.rt.forever() {
             if !self.means.wait_for_want(self.rt) {
                 break;
             }
-            if self.make_worker(scope) {
-                is_made = true;
-                pause = Pause::first();
-                continue;
-            }
-            left = left.saturating_sub(1);
-            if left == 0 && !is_made {
-                break;
-            }
-            self.means.pause(self.rt, pause.next());
+            self.make_worker(scope);
         }
-        self.arrivals.give_up(self.rt, self.means);
+        let mut door = self.door.lock(self.rt);
+        door.give_up();
+        self.end(&mut door);
     }
 
     // Makes a worker, if there is a thread for it and what its connection would take beside those that begin now.
-    fn make_worker<'s, 'e>(&'s self, scope: &'s Scope<'s, &'e ()>) -> bool {
-        let beginning = self.means.hold_up(self.rt);
-        let workers = usize::try_from(self.means.workers(self.rt)).unwrap_or(usize::MAX);
-        let workers = workers.saturating_add(1);
-        let mut stays = false;
-        if self.memory.has_stack(workers) && self.start_worker(scope, workers, beginning) {
-            stays = self.came_up.take(self.rt) == Some(true);
+    fn make_worker<'s, 'e>(&'s self, scope: &'s Scope<'s, &'e ()>) {
+        let Some((workers, beginning)) = self.means.expect_worker(self.rt) else {
+            return;
+        };
+        let workers = usize::try_from(workers).unwrap_or(usize::MAX);
+        if !self.memory.has_stack(workers) || !self.start_worker(scope, workers, beginning) {
+            self.means.worker_came(self.rt, false);
         }
-        self.means.let_begin(self.rt);
-        stays
     }
 
     // Starts the thread of a worker. Whether the system had one.
@@ -174,22 +156,20 @@ where
                 scope,
                 move ||
                     requires { IsSync R.row × IsSync V.row × IsSend V.Entrance.row × IsSend V.Alive.row
-                        × IsSend A.row × IsSync A.row }
+                        × IsSend A.row }
                 { workers.come_to_work(scope, number, beginning) },
             )
             .is_ok()
     }
 
-    // A new worker reports once whether it stays: whether there is what the connections of so many workers take beside
-    // those that begin. If it stays, it works.
+    // A new worker stays if there is what the connections of so many workers take beside those that begin. Then it works.
     fn come_to_work<'s, 'e>(&'s self, scope: &'s Scope<'s, &'e ()>, number: usize, beginning: u64) {
         self.memory.begin_thread();
-        if self.memory.has_connections(number) && has_programs(self.rt, self.reserve, beginning) {
-            self.means.come_to_door(self.rt, true);
-            self.came_up.give(self.rt, true);
+        let stays = self.memory.has_connections(number)
+            && has_programs(self.rt, self.reserve, beginning);
+        self.means.worker_came(self.rt, stays);
+        if stays {
             self.work(scope);
-        } else {
-            self.came_up.give(self.rt, false);
         }
     }
 
@@ -197,34 +177,72 @@ where
     // may tell a program that the thread has ended which started it.
     fn work<'s, 'e>(&'s self, scope: &'s Scope<'s, &'e ()>) {
         for _ in self.rt.forever() {
-            let Some(permit) = self.means.take(self.rt) else {
+            let Some((permit, work)) = self.let_in() else {
                 break;
             };
-            match self.arrivals.accept(self.rt) {
-                Some(Ok(came)) => self.serve(scope, permit, came),
-                Some(Err(error)) => {
-                    self.means.give_back(self.rt, permit);
-                    self.arrivals.pause(self.rt, self.means, error);
-                }
-                None => self.means.give_back(self.rt, permit),
+            match self.server.begin(work) {
+                Err(over) => self
+                    .means
+                    .give_back(self.rt, permit, self.server.is_retired(&over)),
+                Ok(alive) => self.go_on(scope, permit, alive),
             }
+            self.means.come_to_door(self.rt);
         }
         self.means.wait_for_ends(self.rt);
     }
 
-    // Lets a connection in that came, serves it up to the start of its program, and sees that somebody goes on with it.
-    fn serve<'s, 'e>(&'s self, scope: &'s Scope<'s, &'e ()>, permit: Permit, came: A::Came) {
-        let Some(work) = self.arrivals.admit(self.rt, self.means, &permit, came) else {
-            self.means.give_back(self.rt, permit);
-            return;
-        };
-        match self.server.begin(work) {
-            Err(over) => self
-                .means
-                .ended(self.rt, permit, self.server.is_retired(&over)),
-            Ok(alive) => self.go_on(scope, permit, alive),
+    // Waits for the lock of the door, for what a connection takes, and for a connection that is let in. `None` once nobody
+    // is let in any more.
+    fn let_in(&self) -> Option<(Permit, V::Work)> {
+        let mut door = self.door.lock(self.rt);
+        for _ in self.rt.forever() {
+            if door.is_over() {
+                self.end(&mut door);
+                break;
+            }
+            let Some(permit) = self.means.take(self.rt) else {
+                break;
+            };
+            match door.accept(&permit) {
+                Some(Ok(came)) => {
+                    if let Some(work) = door.admit(&permit, came) {
+                        if door.is_over() {
+                            self.end(&mut door);
+                        }
+                        drop(door);
+                        self.means.leave_door(self.rt);
+                        return Some((permit, work));
+                    }
+                    self.means.give_back(self.rt, permit, false);
+                }
+                Some(Err(error)) => {
+                    self.means.give_back(self.rt, permit, false);
+                    self.pause(&mut door, error);
+                }
+                None => self.means.give_back(self.rt, permit, false),
+            }
         }
-        self.means.come_to_door(self.rt, false);
+        None
+    }
+
+    // Counts an error of accepting. After one for want of descriptors or memory it waits first. If a connection was
+    // served then, the error is none of the hundred.
+    fn pause(&self, door: &mut Door<A, V::Entrance>, error: AcceptError) {
+        door.note(error);
+        if error.lacks_room {
+            let pause = door.next_pause();
+            if self.means.wait_for_change(self.rt, pause) {
+                return;
+            }
+            thread::sleep(self.rt, pause);
+        }
+        door.count_fault();
+    }
+
+    // Nobody is let in any more: no worker waits for a connection, and the acceptor is dropped.
+    fn end(&self, door: &mut Door<A, V::Entrance>) {
+        self.means.end(self.rt);
+        door.close();
     }
 
     // Goes on with a connection to its end. With one of many a thread goes on, if there is one, which takes far less of a

@@ -35,8 +35,8 @@ end_told (Err child) kills fails ends job serial own last then same is none its 
 
 -- ---- a connection was served, and no program of it runs
 
-module _ {L : Type 0} {J : Type 0} {I O : Type 0} (finds : Opening → Type 0) (found : Option Opening) (honest sound : Bool)
-    (peer : Client) (local : LocalEnd) (plan : PlanText) (refuses : Refuses) (serial : ℕ) (served : Served L J I O) (last : Option Event) where
+module _ {L : Type 0} {J : Type 0} (finds : Opening → Type 0) (found : Option Opening) (honest sound : Bool)
+    (peer : Client) (local : LocalEnd) (plan : PlanText) (refuses : Refuses) (serial : ℕ) (served : Served L J) (last : Option Event) where
   -- as its answer says, which was told last
   denied_told : served ≡ Served.Denied → last ≡ Some (last_event serial served)
       → OnDenied served (IsDecidedAs (WasFound found finds) honest sound peer Deny)
@@ -44,8 +44,8 @@ module _ {L : Type 0} {J : Type 0} {I O : Type 0} (finds : Opening → Type 0) (
   denied_told is told why = record {
     found = found;
     event = Dropped serial cause.Denied;
-    told = told ∙ ap (λ (s : Served L J I O). Some (last_event serial s)) is;
-    reason = (refl, inl (refl, subst (λ (s : Served L J I O). OnDenied s (IsDecidedAs (WasFound found finds) honest sound peer Deny)) is why));
+    told = told ∙ ap (λ (s : Served L J). Some (last_event serial s)) is;
+    reason = (refl, inl (refl, subst (λ (s : Served L J). OnDenied s (IsDecidedAs (WasFound found finds) honest sound peer Deny)) is why));
   }
 
   refusal_told : (fault : StartFault) → served ≡ Served.StartFailed fault → last ≡ Some (last_event serial served)
@@ -54,8 +54,8 @@ module _ {L : Type 0} {J : Type 0} {I O : Type 0} (finds : Opening → Type 0) (
   refusal_told fault is told why = record {
     found = found;
     event = StartFailed serial fault;
-    told = told ∙ ap (λ (s : Served L J I O). Some (last_event serial s)) is;
-    reason = (refl, subst (λ (s : Served L J I O). IfStartFailed s (IsRefused (WasFound found finds) honest sound peer local plan refuses)) is why);
+    told = told ∙ ap (λ (s : Served L J). Some (last_event serial s)) is;
+    reason = (refl, subst (λ (s : Served L J). IfStartFailed s (IsRefused (WasFound found finds) honest sound peer local plan refuses)) is why);
   }
 
   drop_told : (why : DropCause) → served ≡ Served.Dropped why → last ≡ Some (last_event serial served)
@@ -64,8 +64,8 @@ module _ {L : Type 0} {J : Type 0} {I O : Type 0} (finds : Opening → Type 0) (
   drop_told why is told drops = record {
     found = found;
     event = Dropped serial why;
-    told = told ∙ ap (λ (s : Served L J I O). Some (last_event serial s)) is;
-    reason = (refl, inr (subst (λ (s : Served L J I O). IfDropped s (Drops (FailsFor (WasFound found finds) honest sound peer) true (2 ^ 64 - 1) (2 ^ 64 - 1) plan.banner)) is drops));
+    told = told ∙ ap (λ (s : Served L J). Some (last_event serial s)) is;
+    reason = (refl, inr (subst (λ (s : Served L J). IfDropped s (Drops (FailsFor (WasFound found finds) honest sound peer) true (2 ^ 64 - 1) (2 ^ 64 - 1) plan.banner)) is drops));
   }
 
   pub unserved_told : (served ≡ Served.Denied) ⊎ (((fault : StartFault) × (served ≡ Served.StartFailed fault)) ⊎ ((why : DropCause) × (served ≡ Served.Dropped why)))

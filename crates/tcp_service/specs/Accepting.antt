@@ -6,11 +6,9 @@ use Rattle.tcp_connections.specs.Names.{client_at, local_at}
 use Rattle.tcp_connections.specs.declared.accepting.Accepted.{Accepted}
 use Rattle.tcp_connections.specs.declared.names.HostNames.{HostNames}
 
--- the client and the server's end are those of the connection that was accepted, with their names, and so are the two
--- holders of its stream
-pub record IsAccepted {S : Type 0} (names : HostNames) (peer : Client) (local : LocalEnd) (writer stream : S)
-    (accepted : Accepted S) : Type 0 where
+-- the connection is the one that was accepted, and so are the client and the server's end, with their names
+pub record IsAccepted {X : Type 0} (names : HostNames) (peer : Client) (local : LocalEnd) (connection : X)
+    (accepted : Accepted X) : Type 0 where
   pub client : peer ≡ client_at names accepted.ip accepted.port
   pub end : local ≡ local_at names accepted.local.ip accepted.local.port
-  pub writes : writer ≡ accepted.writer
-  pub carries : stream ≡ accepted.stream
+  pub same : connection ≡ accepted.connection

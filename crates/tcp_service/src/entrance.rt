@@ -76,15 +76,14 @@ pub struct Entrance<'a, H: Host> {
 
 impl<'a, H: Host> Admission for Entrance<'a, H>
 where
-    H::Holder: Send,
+    H::Connection: Send,
 {
-    /// A connection that was accepted; none if it found no memory.
-    type Came = Option<Accepted<H::Holder>>;
+    type Came = Accepted<H::Connection>;
 
     type Work = Admitted<'a, H>;
 
-    ghost is_its = { λ came work. IfSome came
-        (IsAccepted work.server.now.service.now.names work.peer work.local work.writer work.stream) };
+    ghost is_its = { λ came work.
+        IsAccepted work.server.now.service.now.names work.peer work.local work.connection came };
 
     ghost count = { H.Callers.admissions };
 
@@ -94,13 +93,13 @@ where
 
     ghost is_spent = { λ entrance. is_some entrance.seen.spent };
 
-    fn admit(&mut self, came: Option<Accepted<H::Holder>>) -> Result<Admitted<'a, H>, Refused<()>> {
+    fn admit(&mut self, came: Accepted<H::Connection>) -> Result<Admitted<'a, H>, Refused> {
         let server = self.server;
         let context = &server.context;
-        let Some((accepted, peer, local)) = ends_of(context.alloc, &server.service.names, came)
-        else {
+        let Some((peer, local)) = ends_of(context.alloc, &server.service.names, &came) else {
+            drop(came);
             let _ = context.log.lock(context.rt).out_of_memory();
-            return Err(Refused::Once(()));
+            return Err(Refused::Once);
         };
         match admit(context, &mut self.admitter, &mut self.seen.spent, &peer) {
             Ok((serial, place, made)) => Ok(Admitted {
@@ -109,18 +108,14 @@ where
                 place,
                 peer,
                 local,
-                writer: accepted.writer,
-                stream: accepted.stream,
+                connection: came.connection,
                 made: Snapshot::of(&made),
             }),
             Err(refused) => {
-                drop(accepted);
+                drop(came);
                 drop(peer);
                 drop(local);
-                match refused {
-                    Refused::Once(_) => Err(Refused::Once(())),
-                    Refused::Spent => Err(Refused::Spent),
-                }
+                Err(refused)
             }
         }
     }
@@ -137,22 +132,14 @@ where
     }
 }
 
-// A connection that came, with its two ends and their names. If there is no memory for them, it is closed.
-fn ends_of<S: Drop>(
-    alloc: Global,
-    names: &HostNames,
-    came: Option<Accepted<S>>,
-) -> Option<(Accepted<S>, Peer, Local)>
-    ensures its { IfSome result (λ named. came ≡ Some named.0) }
-    ensures client { IfSome result (λ named. named.1 ≡ client_at names.now named.0.ip named.0.port) }
-    ensures end { IfSome result (λ named. named.2 ≡ local_at names.now named.0.local.ip named.0.local.port) }
+// The two ends of a connection that came, with their names, if there is memory for them.
+fn ends_of<X>(alloc: Global, names: &HostNames, came: &Accepted<X>) -> Option<(Peer, Local)>
+    ensures client { IfSome result (λ ends. ends.0 ≡ client_at names.now came.now.ip came.now.port) }
+    ensures end { IfSome result (λ ends. ends.1 ≡ local_at names.now came.now.local.ip came.now.local.port) }
 {
-    let accepted = came?;
-    let peer = names.peer(alloc, accepted.ip, accepted.port).ok()?;
-    let local = names
-        .local(alloc, accepted.local.ip(), accepted.local.port())
-        .ok()?;
-    Some((accepted, peer, local))
+    let peer = names.peer(alloc, came.ip, came.port).ok()?;
+    let local = names.local(alloc, came.local.ip(), came.local.port()).ok()?;
+    Some((peer, local))
 }
 
 // Counts a connection: its serial, and its place. Once the last number of an event is given nobody is let in any more.
@@ -162,7 +149,7 @@ fn admit<G: AgentGround>(
     admitter: &mut CallerOf<G>,
     spent: &mut Option<NoNumbers>,
     peer: &Peer,
-) -> Result<AdmittedBy<G>, Refused<Refusal>>
+) -> Result<AdmittedBy<G>, Refused>
     ensures came { LetsIn result (caller_share admitter.old) (caller_share admitter.new) }
     ensures spent { OnSpent result (IsTrue (is_some spent.new)) }
     ensures own { AdmitsOwn result peer.now }
@@ -187,7 +174,7 @@ fn admit<G: AgentGround>(
                 *spent = Some(NoNumbers::of_refusal(&refusal));
                 Err(Refused::Spent)
             }
-            _ => Err(Refused::Once(refusal)),
+            _ => Err(Refused::Once),
         },
     }
 }

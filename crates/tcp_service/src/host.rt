@@ -9,7 +9,7 @@ use rule_lookup::Peer;
 use server_yard::{Assumptions, Finding};
 use shared_site::Ground;
 use std::alloc::{AllocError, Global};
-use std::io::{Read, Write};
+use std::io::Write;
 use std::sync::Wait;
 use tcp_connections::Starter;
 
@@ -38,20 +38,14 @@ pub trait AgentGround: Ground {
 /// Which of these things threads share (`Sync`) and give one another (`Send`) is said where threads are started, and
 /// not here: the check does not take a call in a method of a trait where what is called says so in its bounds.
 pub trait Host: AgentGround {
-    /// One of those who hold the stream of a connection, which is closed once nobody does.
-    type Holder: Write + Drop;
+    /// A connection, which is closed once it is let go.
+    type Connection: Drop;
 
     /// What starts the programs of connections.
-    type Starter: Starter<Self::Holder, Job = Self::Job>;
+    type Starter: Starter<Self::Connection, Job = Self::Job>;
 
     /// The program of a connection while it runs.
-    type Job: Job<Input = Self::Input, Output = Self::Output>;
-
-    /// The end of the pipe that the program of a connection reads, if the job can give one.
-    type Input: Write;
-
-    /// The end of the pipe that it writes.
-    type Output: Read;
+    type Job: Job;
 }
 
 /// Where the rules stand that each connection opens for itself.

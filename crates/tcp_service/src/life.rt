@@ -26,8 +26,7 @@ pub struct Admitted<'a, H: Host> {
     pub(crate) place: Place<H::Places>,
     pub(crate) peer: Peer,
     pub(crate) local: Local,
-    pub(crate) writer: H::Holder,
-    pub(crate) stream: H::Holder,
+    pub(crate) connection: H::Connection,
     pub(crate) made: Snapshot<Made>,
     pub(crate) ghost own: { made_event made.value ≡ AdmittedEvent serial peer },
 }
@@ -60,15 +59,14 @@ impl<H: Host> Server<'_, H> {
     /// Serves a connection up to the start of its program.
     ///
     /// # Errors
-    /// It is over; its stream is left.
+    /// It is over; the connection itself is left.
     pub(crate) fn serve(
         &self,
         serial: u64,
         place: Place<H::Places>,
         peer: &Peer,
         local: &Local,
-        writer: &mut H::Holder,
-        stream: &H::Holder,
+        connection: &H::Connection,
     ) -> Result<Ran<H>, Over>
         ensures own { IfOk result (λ ran. place_of ran.0 ≡ place) }
         ensures child { IfOk result (λ ran. IsOwnChild (kept_opening H.File.bytes ran.1)
@@ -79,16 +77,29 @@ impl<H: Host> Server<'_, H> {
         ensures reason { IfErr result (λ over. EndsWithReason
             (IsFoundFor H.Places.met (H.Rules.gives self.now.context.rules.now) H.Handle.opened serial)
             H.File.honest H.File.sound peer.now local.now self.now.context.plan.now
-            (H.Starter.refuses self.now.starter.now stream.now) serial (asked over.last.value)) }
+            (H.Starter.refuses self.now.starter.now connection.now) serial (asked over.last.value)) }
     {
         let mut agent = self.context.agent(serial, local);
+        let starter = self.starter;
         let launcher = ConnectionLauncher {
-            starter: self.starter,
-            connection: stream,
+            starter,
+            connection,
+        };
+        let mut greeter = ConnectionLauncher {
+            starter,
+            connection,
         };
         let (alloc, plan) = (self.context.alloc, self.context.plan);
         match serve_one(
-            alloc, &mut agent, place, serial, peer, local, plan, launcher, writer,
+            alloc,
+            &mut agent,
+            place,
+            serial,
+            peer,
+            local,
+            plan,
+            launcher,
+            &mut greeter,
         ) {
             Served::Running(running) => {
                 let LoggedAgent { found, .. } = agent;

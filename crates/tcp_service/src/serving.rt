@@ -22,11 +22,9 @@ where
     H::Handle: Send,
     H::Rules: Sync,
     H::Lines: Send,
-    H::Holder: Send,
+    H::Connection: Send,
     H::Starter: Sync,
     H::Job: Send,
-    H::Input: Send,
-    H::Output: Send,
 {
     type Entrance = Entrance<'a, H>;
 
@@ -56,7 +54,7 @@ where
             admitted.entry.serial)
             H.File.honest H.File.sound admitted.entry.peer admitted.entry.local
             admitted.entry.server.now.context.plan.now
-            (H.Starter.refuses admitted.entry.server.now.starter.now admitted.entry.stream) admitted.entry.serial
+            (H.Starter.refuses admitted.entry.server.now.starter.now admitted.entry.connection) admitted.entry.serial
             (asked over.last.value)) }
     {
         let Admitted {
@@ -65,13 +63,11 @@ where
             place,
             peer,
             local,
-            mut writer,
-            stream,
+            connection,
             made: _,
         } = admitted;
-        let served = server.serve(serial, place, &peer, &local, &mut writer, &stream);
-        drop(writer);
-        drop(stream);
+        let served = server.serve(serial, place, &peer, &local, &connection);
+        drop(connection);
         match served {
             Ok((running, found)) => {
                 let alive = Alive {

@@ -1,8 +1,11 @@
 -- What connections come from, and how their bytes pass.
-use Rattle.std.specs.Prelude.{◌≡◌, Bool}
+use Rattle.std.specs.Prelude.{◌≡◌, Bool, true, false, is_some}
+use Rattle.server_words.specs.declared.mode.Mode.{Mode}
+use Rattle.server_words.specs.declared.mode.Mode.TheVariants.{HandedOver, Pumped}
 use Rattle.server_words.specs.Plans.{ServerPlan}
 use Rattle.tcp_streams.specs.declared.passing.Passing.{Passing}
 use Rattle.tcp_streams.specs.declared.programs.ProgramStarter.{ProgramStarter}
+use Rattle.tcp_streams.specs.declared.programs.ServiceJob.{ServiceJob}
 use Rattle.tcp_streams.specs.declared.sockets.SocketAcceptor.{SocketAcceptor}
 
 -- the socket that an acceptor's connections come from, and whether what is written to them is sent at once
@@ -23,3 +26,12 @@ pub record IsAskedPassing (words : ServerPlan) (passing : Passing) : Type 0 wher
   pub recording : passing.recording ≡ words.wrapping.records
   pub input : passing.input.now ≡ words.wrapping.input
   pub output : passing.output.now ≡ words.wrapping.output
+
+-- the server passes the bytes of connections on
+abbrev pub pumps : Mode → Bool
+pumps HandedOver = false
+pumps Pumped = true
+
+-- the connection of a job is pumped
+abbrev pub is_pumped : {R E : Type 0} → ServiceJob R E → Bool
+is_pumped job = is_some job.passage

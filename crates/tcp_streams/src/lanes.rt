@@ -1,5 +1,6 @@
 //! One way of a pumped connection, from a stream to another one. No call of it waits.
-ghost use Rattle.std.specs.Prelude.{◌<◌, IfSome, length, ⊤};
+ghost use Rattle.std.specs.Prelude.{◌≡◌, ◌<◌, IfSome, length, ⊤};
+ghost use Rattle.tcp_streams.specs.Taps.{Records};
 ghost use Rattle.tcp_streams.specs.Wrappers.{IsNewChain};
 
 use crate::wrappers::{Wrapper, chain_of};
@@ -14,6 +15,21 @@ use std::io::{Error, ErrorKind, Read, Write};
 pub(crate) struct WayTap<W> {
     pub way: Way,
     pub recorder: Option<Recorder<W>>,
+}
+
+impl<W: Write + Drop> WayTap<W> {
+    /// That of a way, which is recorded with this number to `writer` if that is asked for.
+    pub fn new(alloc: Global, is_recorded: bool, number: u64, way: Way, writer: W) -> WayTap<W>
+        ensures { Records is_recorded number way result }
+    {
+        if is_recorded {
+            let recorder = Some(Recorder::new(alloc, number, way, writer));
+            return WayTap { way, recorder };
+        }
+        drop(writer);
+        let recorder = None;
+        WayTap { way, recorder }
+    }
 }
 
 impl<W: Write> Tap for WayTap<W> {
@@ -60,6 +76,7 @@ impl<W: Write + Drop> Lane<W> {
     pub fn new(alloc: Global, names: &[LineWrapperName], tap: WayTap<W>) -> Option<Lane<W>>
         ensures new { IfSome result (λ lane. IsNewChain
             ⟦<Wrapper as LineWrapper>⟧.rest ⟦<Wrapper as LineWrapper>⟧.whole names.now lane.chain) }
+        ensures tap { IfSome result (λ lane. lane.tap ≡ tap) }
     {
         let chain = chain_of(alloc, names).ok()?;
         let room = new_room(alloc).ok()?;

@@ -5,8 +5,9 @@
 //! program: `ServiceJob::wait` passes bytes both ways, in the one thread that waits, and then waits for the program. So
 //! nobody above knows of it.
 //!
-//! It is proved that a job has the program and the variables that were asked for, and that each way goes through new
-//! line wrappers, those of its words in their order (`Lane::new`). Each piece passes by `byte_streams::pump_once`.
+//! It is proved that a job has the program and the variables that were asked for, that it pumps its connection exactly if
+//! the mode says so (`start_for`), and that each way goes through new line wrappers, those of its words in their order,
+//! and is recorded if that is asked for (`Passage::new`). Each piece passes by `byte_streams::pump_once`.
 //! `proofs/Crossing.antt` proves that a job may go to another thread. Tested only: descriptors 0 and 1 are the connection
 //! or the pipes, what one pump keeps is written before the next one, nobody who reads or writes nothing holds up the
 //! other way, and the bounds on clients that take nothing (`Passage`).
@@ -20,4 +21,4 @@ mod wrappers;
 
 pub use passing::Passing;
 pub use programs::{ProgramStarter, ServiceJob};
-pub use sockets::{Holder, SocketAcceptor};
+pub use sockets::{Connection, SocketAcceptor};

@@ -1,10 +1,12 @@
 //! Both ways of a pumped connection, in one thread.
 ghost use Rattle.std.specs.Prelude.{◌≡◌, IfSome};
+ghost use Rattle.byte_streams.specs.declared.recording.Way.TheVariants.{Input, Output};
+ghost use Rattle.tcp_streams.specs.Taps.{Records};
 ghost use Rattle.tcp_streams.specs.Wrappers.{IsNewChain};
 
 use crate::lanes::{Lane, WayTap};
 use crate::wrappers::Wrapper;
-use byte_streams::{LineWrapper, Patient, Recorder, Way};
+use byte_streams::{LineWrapper, Patient, Way};
 use child_jobs::Job;
 use libc::net::{POLLERR, POLLHUP, POLLIN, POLLOUT};
 use libc::types::pollfd;
@@ -17,7 +19,7 @@ use std::process::{ChildStdin, ChildStdout};
 use std::sync::Wait;
 use std::thread;
 use std::time::{Clock, Duration, Instant};
-use stream_tools::OsJob;
+use stream_tools::{OsJob, Piped};
 
 /// For so many seconds in succession a client may take nothing of what its program left for it.
 const IDLE: u64 = 60;
@@ -98,18 +100,26 @@ impl<'a, R: Wait + Clock, E: Write + Copy + Drop> Passage<'a, R, E> {
             ⟦<Wrapper as LineWrapper>⟧.whole passing.now.input.now passage.upward.chain) }
         ensures output { IfSome result (λ passage. IsNewChain ⟦<Wrapper as LineWrapper>⟧.rest
             ⟦<Wrapper as LineWrapper>⟧.whole passing.now.output.now passage.downward.chain) }
+        ensures recorded { IfSome result (λ passage. Records passing.now.recording port Input passage.upward.tap
+            × Records passing.now.recording port Output passage.downward.tap) }
     {
-        let tap = |way: Way| WayTap {
-            way,
-            recorder: passing.recording.then(|| Recorder::new(
-                alloc,
-                u64::from(port),
-                way,
-                Patient::new(rt, errors),
-            )),
-        };
-        let upward = Lane::new(alloc, passing.input, tap(Way::Input))?;
-        let downward = Lane::new(alloc, passing.output, tap(Way::Output))?;
+        let (recording, number) = (passing.recording, u64::from(port));
+        let tap = WayTap::new(
+            alloc,
+            recording,
+            number,
+            Way::Input,
+            Patient::new(rt, errors),
+        );
+        let upward = Lane::new(alloc, passing.input, tap)?;
+        let tap = WayTap::new(
+            alloc,
+            recording,
+            number,
+            Way::Output,
+            Patient::new(rt, errors),
+        );
+        let downward = Lane::new(alloc, passing.output, tap)?;
         Some(Passage {
             rt,
             client,
@@ -127,7 +137,7 @@ impl<'a, R: Wait + Clock, E: Write + Copy + Drop> Passage<'a, R, E> {
         ensures program { ⟦<OsJob as Job>⟧.program job.new ≡ ⟦<OsJob as Job>⟧.program job.old }
         ensures environment { ⟦<OsJob as Job>⟧.environment job.new ≡ ⟦<OsJob as Job>⟧.environment job.old }
     {
-        let Ok((input, output)) = job.ends() else {
+        let Some((input, output)) = job.ends() else {
             return;
         };
         self.begin(input, output);

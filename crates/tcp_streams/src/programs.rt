@@ -1,20 +1,19 @@
 //! Programs of the system, each with the connection that it serves.
-ghost use Rattle.std.specs.Prelude.{◌≡◌, ⊤, IfOk, false, true};
+ghost use Rattle.std.specs.Prelude.{◌≡◌, ⊤, IfErr, IfOk, true};
+ghost use Rattle.tcp_streams.specs.Asked.{is_pumped, passing_of, pumps};
 
 use crate::passing::{Passage, Passing};
-use crate::sockets::Holder;
-use child_jobs::{
-    Environment, Exit, Job, Launcher, NoEnds, NotStarted, Program, StartFault, WaitFault,
-};
+use crate::sockets::Connection;
+use child_jobs::{Environment, Exit, Job, Launcher, NotStarted, Program, StartFault, WaitFault};
 use server_words::Mode;
 use std::alloc::Global;
 use std::fs::Files;
-use std::io::{Empty, Sink, Write};
+use std::io::Write;
 use std::os::fd::OwnedFd;
 use std::process::Processes;
 use std::sync::Wait;
-use std::thread;
 use std::time::{Clock, Duration};
+use std::{io, thread};
 use stream_tools::{OsJob, OsLauncher, SearchPath};
 use tcp_connections::{Reserve, Starter};
 
@@ -45,8 +44,6 @@ pub struct ProgramStarter<'a, R, E> {
 }
 
 impl<'a, R: Processes + Files + Wait + Clock, E: Write + Copy + Drop> ProgramStarter<'a, R, E> {
-    ghost use Rattle.tcp_streams.specs.Asked.{passing_of};
-
     /// A starter over the system's processes, which looks for programs in these folders. The bytes of their connections
     /// pass in this way, and are recorded to `errors`.
     pub fn new(
@@ -117,7 +114,7 @@ impl<'a, R: Processes + Files + Wait + Clock, E: Write + Copy + Drop> ProgramSta
     }
 }
 
-impl<'a, R, E> Starter<Holder<'a, R>> for ProgramStarter<'a, R, E>
+impl<'a, R, E> Starter<Connection<'a, R>> for ProgramStarter<'a, R, E>
 where
     R: Processes + Files + Wait + Clock,
     E: Write + Copy + Drop,
@@ -128,14 +125,23 @@ where
 
     ghost refuses = { λ _ _ _ _ _. ⊤ };
 
+    fn send(&self, connection: &Connection<'a, R>, bytes: &[u8]) -> io::Result<usize> {
+        connection.send(bytes)
+    }
+
     /// As of the trait; a connection that was given before is `Other`. One whose program is not started is closed.
     fn start_for(
         &self,
         alloc: Global,
-        connection: &Holder<'a, R>,
+        connection: &Connection<'a, R>,
         program: &Program,
         environment: &Environment,
-    ) -> Result<ServiceJob<'a, R, E>, NotStarted> {
+    ) -> Result<ServiceJob<'a, R, E>, NotStarted>
+        ensures refused { IfErr result (λ _. ⊤) }
+        ensures program { IfOk result (λ job. ⟦<OsJob as Job>⟧.program job.job ≡ program.now) }
+        ensures environment { IfOk result (λ job. ⟦<OsJob as Job>⟧.environment job.job ≡ environment.now) }
+        ensures mode { IfOk result (λ job. is_pumped job ≡ pumps (passing_of self.now).mode) }
+    {
         let client = connection.take().ok_or(StartFault::Other)?;
         let (rt, passing, port) = (self.rt, &self.passing, connection.port());
         match passing.mode {
@@ -163,27 +169,16 @@ pub struct ServiceJob<'a, R, E> {
     passage: Option<Box<Passage<'a, R, E>>>,
 }
 
-/// It has no pipe ends to give: its wait uses them.
 impl<'a, R: Wait + Clock, E: Write + Copy + Drop> Job for ServiceJob<'a, R, E> {
-    type Input = Sink;
-
-    type Output = Empty;
-
     ghost program = { λ job. ⟦<OsJob as Job>⟧.program job.job };
 
     ghost environment = { λ job. ⟦<OsJob as Job>⟧.environment job.job };
-
-    ghost has_ends = { λ _. false };
 
     ghost killed = { λ _ _ _. ⊤ };
 
     ghost ended = { λ _ _. ⊤ };
 
     ghost refused_wait = { λ _ _ _. ⊤ };
-
-    fn ends(&mut self) -> Result<(Sink, Empty), NoEnds> {
-        Err(NoEnds)
-    }
 
     fn kill(&mut self) -> Result<(), WaitFault> {
         self.job.kill()

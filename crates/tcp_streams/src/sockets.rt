@@ -1,15 +1,12 @@
 //! Connections of the system's sockets.
 ghost use Rattle.std.specs.Prelude.{◌≡◌};
+ghost use Rattle.std.specs.Io.{WritesAtMost};
 
 use child_jobs::Local;
-use libc::net::SHUT_RD;
-use std::alloc::Global;
 use std::io;
 use std::io::{Error, ErrorKind, Write};
 use std::net::{OpenListener, SocketAddr, SocketAddrV4, TcpStream};
-use std::os::fd::AsRawFd;
-use std::sync::{Arc, Mutex, Wait};
-use std::time::Clock;
+use std::sync::{Mutex, Wait};
 use tcp_connections::{AcceptError, Accepted, Acceptor};
 
 /// The system's faults of a process, and of the whole system, that has too many open files.
@@ -20,16 +17,16 @@ const TOO_MANY_FILES_AT_ALL: i32 = 23;
 /// The system's fault of a socket for which it has no memory.
 const NO_BUFFERS: i32 = 105;
 
-/// One of the two holders of a connection's socket. It is there until it is taken out for the connection's program; if
-/// it is not, it is closed once both are let go.
+/// A connection. Its socket is there until it is taken out for the connection's program; if it is not, it is closed with
+/// this.
 #[derive(Drop)]
-pub struct Holder<'a, R> {
+pub struct Connection<'a, R> {
     rt: &'a R,
     port: u16,
-    socket: Arc<Mutex<Option<TcpStream>>, Global>,
+    socket: Mutex<Option<TcpStream>>,
 }
 
-impl<'a, R: Wait> Holder<'a, R> {
+impl<'a, R: Wait> Connection<'a, R> {
     /// The client's port.
     pub(crate) fn port(&self) -> u16 {
         self.port
@@ -39,19 +36,15 @@ impl<'a, R: Wait> Holder<'a, R> {
     pub(crate) fn take(&self) -> Option<TcpStream> {
         self.socket.lock(self.rt).take()
     }
-}
 
-/// A write waits as long as the client does. It fails with `NotConnected` once the socket was taken out.
-impl<R: Wait> Write for Holder<'_, R> {
-    fn write(&mut self, buf: &[u8]) -> io::Result<usize> {
+    /// Sends the client some of these bytes. It fails with `NotConnected` once the socket was taken out.
+    pub(crate) fn send(&self, bytes: &[u8]) -> io::Result<usize>
+        ensures bound { WritesAtMost result bytes.now }
+    {
         match self.socket.lock(self.rt).as_ref() {
-            Some(mut stream) => stream.write(buf),
+            Some(mut stream) => stream.write(bytes),
             None => Err(Error::from(ErrorKind::NotConnected)),
         }
-    }
-
-    fn flush(&mut self) -> io::Result<()> {
-        Ok(())
     }
 }
 
@@ -59,7 +52,6 @@ impl<R: Wait> Write for Holder<'_, R> {
 #[derive(Drop)]
 pub struct SocketAcceptor<'a, R, T> {
     rt: &'a R,
-    alloc: Global,
     listener: T,
     // whether what is written to its connections is sent at once (TCP_NODELAY)
     sends_at_once: bool,
@@ -69,18 +61,12 @@ impl<'a, R: Wait, T: OpenListener<Stream = TcpStream>> SocketAcceptor<'a, R, T> 
     ghost use Rattle.tcp_streams.specs.Asked.{accepts_at_once, accepts_from};
 
     /// Those of this listener. What is written to them is sent at once where that is asked for (`-D`).
-    pub fn new(
-        rt: &'a R,
-        alloc: Global,
-        listener: T,
-        sends_at_once: bool,
-    ) -> SocketAcceptor<'a, R, T>
+    pub fn new(rt: &'a R, listener: T, sends_at_once: bool) -> SocketAcceptor<'a, R, T>
         ensures from { accepts_from result ≡ listener }
         ensures at_once { accepts_at_once result ≡ sends_at_once }
     {
         SocketAcceptor {
             rt,
-            alloc,
             listener,
             sends_at_once,
         }
@@ -95,30 +81,16 @@ impl<'a, R: Wait, T: OpenListener<Stream = TcpStream>> SocketAcceptor<'a, R, T> 
             _ => Err(Error::from(ErrorKind::Other)),
         }
     }
-
-    // Two holders of a connection's socket; none for want of memory.
-    fn holders(&self, port: u16, stream: TcpStream) -> Option<(Holder<'a, R>, Holder<'a, R>)> {
-        let rt = self.rt;
-        let socket = Arc::new(self.alloc, Mutex::new(Some(stream))).ok()?;
-        let shared = Arc::try_clone(&socket).ok()?;
-        let other = Holder {
-            rt,
-            port,
-            socket: shared,
-        };
-        Some((Holder { rt, port, socket }, other))
-    }
 }
 
 impl<'a, R, T> Acceptor for SocketAcceptor<'a, R, T>
 where
-    R: Wait + Clock + Sync,
-    T: OpenListener<Stream = TcpStream> + AsRawFd + Drop,
+    R: Wait + Sync,
+    T: OpenListener<Stream = TcpStream> + Drop,
 {
-    /// None if there was no memory for the connection, which was closed then.
-    type Came = Option<Accepted<Holder<'a, R>>>;
+    type Came = Accepted<Connection<'a, R>>;
 
-    fn accept(&self) -> Result<Option<Accepted<Holder<'a, R>>>, AcceptError> {
+    fn accept(&self) -> Result<Accepted<Connection<'a, R>>, AcceptError> {
         let (local, stream, peer) = match self.next() {
             Ok(next) => next,
             Err(error) => return Err(error_of(&error)),
@@ -126,21 +98,16 @@ where
         if self.sends_at_once {
             let _ = stream.set_nodelay(true);
         }
-        let Some((writer, stream)) = self.holders(peer.port(), stream) else {
-            return Ok(None);
-        };
-        Ok(Some(Accepted {
-            writer,
-            stream,
+        Ok(Accepted {
+            connection: Connection {
+                rt: self.rt,
+                port: peer.port(),
+                socket: Mutex::new(Some(stream)),
+            },
             ip: peer.ip().octets(),
             port: peer.port(),
             local: Local::new(local.ip().octets(), local.port(), None),
-        }))
-    }
-
-    // (a server whose `shutdown` the system refuses ends only once each thread that waits has got a connection)
-    fn wake(&self) {
-        let _ = libc::net::shutdown(self.listener.as_raw_fd(), SHUT_RD);
+        })
     }
 }
 

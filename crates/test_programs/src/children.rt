@@ -1,15 +1,14 @@
 //! Children that do nothing, and end by themselves.
-ghost use Rattle.std.specs.Prelude.{◌≡◌, false, ⊤, IfSome, true};
+ghost use Rattle.std.specs.Prelude.{◌≡◌, ⊤, IfSome, true};
 ghost use Rattle.child_jobs.specs.declared.outcome.Status.TheVariants.{Code};
 ghost use Rattle.child_jobs.specs.Runs.{place_of};
 
 use child_jobs::{
-    Environment, Exit, Job, Launcher, NoEnds, NotStarted, Place, Program, Running, Status,
-    WaitFault, finish, start,
+    Environment, Exit, Job, Launcher, NotStarted, Place, Program, Running, Status, WaitFault,
+    finish, start,
 };
 use server_yard::Assumptions;
 use std::alloc::Global;
-use std::io::{Empty, Sink};
 use std::snapshot::Snapshot;
 
 /// A job that has ended as soon as it is waited for.
@@ -19,25 +18,15 @@ pub(crate) struct Idle {
 }
 
 impl Job for Idle {
-    type Input = Sink;
-
-    type Output = Empty;
-
     ghost program = { λ job. job.program.value };
 
     ghost environment = { λ job. job.environment.value };
-
-    ghost has_ends = { λ _. false };
 
     ghost killed = { λ _ _ _. ⊤ };
 
     ghost ended = { λ _ status. status ≡ Code 7 };
 
     ghost refused_wait = { λ _ _ _. ⊤ };
-
-    fn ends(&mut self) -> Result<(Sink, Empty), NoEnds> {
-        Err(NoEnds)
-    }
 
     fn kill(&mut self) -> Result<(), WaitFault> {
         Ok(())

@@ -25,7 +25,6 @@ mod standard;
 mod system;
 mod tool;
 
-use byte_streams::Patient;
 use fault_hints::Voice;
 use server_parts::opening::stand_in;
 use standard::run_system;
@@ -43,7 +42,7 @@ fn main(rt: HostRuntime) -> ExitCode {
     let pass = |recorded: bool, words: &[Vec<u8>]| {
         let _held = [stand_in(&rt), stand_in(&rt), stand_in(&rt)];
         if recorded {
-            run_recordio(&rt, Patient::new(&rt, rt.stderr()), words)
+            run_recordio(&rt, rt.stderr(), words)
         } else {
             run_fixcrio(&rt, words)
         }

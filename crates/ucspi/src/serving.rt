@@ -9,8 +9,10 @@ ghost use Rattle.tcp_connections.specs.declared.admission.ServeEnd.TheVariants.{
 ghost use Rattle.tcp_service.specs.Agents.{IsFoundFor};
 ghost use Rattle.tcp_service.specs.Lives.{MayStartEach};
 
+use crate::ends::{Finished, end_of};
 use child_jobs::Plan;
 use server_log::Log;
+use server_parts::ServerFailure;
 use shared_site::{BackCallers, CallerOf, Site, YardOf};
 use std::alloc::Global;
 use std::snapshot::Snapshot;
@@ -18,7 +20,7 @@ use std::sync::Mutex;
 use std::sync::ledger::Blank;
 use std::thread::Threads;
 use std::time::Clock;
-use tcp_connections::{Accepted, Acceptor, Errors, ServeEnd, Workers};
+use tcp_connections::{Accepted, Acceptor, Errors, ServeEnd, Supply, Workers};
 use tcp_service::{AgentContext, Entrance, Host, Seen, Server, Service};
 
 /// So many callers of a site make the events of a server: one lets connections in, and the other makes the rest.
@@ -27,7 +29,8 @@ pub(crate) const CALLERS: u64 = 2;
 /// A server that has come to its end: nobody is let in any more and its threads have ended, both callers of its site
 /// are back and the site is closed. Each connection that is alive still is a retired one, unless one was lost. For want
 /// of places it ended only if its site has said that all are retired, and for want of numbers only if it has said that
-/// none is left.
+/// none is left. By faults of accepting it ended only if the last hundred answers of its acceptor were errors, or if there
+/// was too little for one connection.
 #[derive(Drop)]
 pub(crate) struct Closed<H: Host> {
     /// How it ended.
@@ -38,6 +41,8 @@ pub(crate) struct Closed<H: Host> {
     pub yard: YardOf<H>,
     /// The errors of accepting that came last in succession.
     pub errors: Errors,
+    // what the system gave it
+    supply: Supply,
     // what its site has said of all connections that would have followed
     seen: Seen<H::Places>,
     // the caller that let connections in, and the one that made all other events
@@ -51,6 +56,7 @@ pub(crate) struct Closed<H: Host> {
     // how many it let in
     pub ghost by_count: { EndsAtCount end H.Callers.admissions (caller_share admitter.value) },
     pub ghost most: { LetsInAtMost end H.Callers.admissions (caller_share admitter.value) },
+    pub ghost by_faults: { end ≡ AcceptFaults → ∥ FailedToAccept (suffices supply) errors.count ∥₁ },
     pub ghost by_places: { end ≡ NoPlaces → IsTrue (is_some seen.retired) },
     pub ghost by_numbers: { end ≡ Spent → IsTrue (is_some seen.spent) },
     // its events are a run of a server
@@ -58,13 +64,15 @@ pub(crate) struct Closed<H: Host> {
 }
 
 /// Serves connections at a site over this yard until it comes to an end, waits until all that were let in are over, and
-/// closes the site.
+/// closes the site. It answers how the tool ends by what that gave (`Closed`).
 ///
 /// Of the two callers of the site, with a part each of `parts`, one lets connections in and makes no other events; the
 /// other makes all others. `plan` is what each connection is served by. `starter` is asked for nothing but the plan's
 /// program, with the variables of a decision to allow. Each connection opens `rules` for itself, which are the yard's.
-/// Once no more connections are let in, the acceptor is dropped. By faults of accepting the server ends only if the last
-/// hundred answers of the acceptor were errors, or if there was too little for one connection.
+/// Once no more connections are let in, the acceptor is dropped.
+///
+/// # Errors
+/// Those of `end_of`.
 pub(crate) fn serve<'a, H, A>(
     rt: &'a H::Runtime,
     alloc: Global,
@@ -76,7 +84,7 @@ pub(crate) fn serve<'a, H, A>(
     plan: &'a Plan,
     service: &'a Service,
     log: &'a Mutex<Log<H::Lines>>,
-) -> Closed<H>
+) -> Result<Finished, ServerFailure>
 where
     H: Host + Send + Sync,
     H::Runtime: Threads + Clock + Sync,
@@ -87,20 +95,18 @@ where
     H::Handle: Send,
     H::Rules: Sync,
     H::Lines: Send,
-    H::Holder: Send,
+    H::Connection: Send,
     H::Starter: Sync,
     H::Job: Send,
-    H::Input: Send,
-    H::Output: Send,
-    A: Acceptor<Came = Option<Accepted<H::Holder>>> + Send + Sync + Drop,
+    A: Acceptor<Came = Accepted<H::Connection>> + Send + Drop,
     requires parts { (parts.name ≡ H.Callers.name) × (parts.parts ≡ H.Callers.parts) × (parts.parts ≡ CALLERS)
         × (H.Callers.all ≡ CALLERS) }
-    requires before { H.Callers.before ≡ (yard_books yard).count }
+    requires servers { H.is_servers ≡ true }
+    requires new { (H.Callers.before ≡ 0) × ((yard_books yard).count ≡ 0) }
     requires count { H.Callers.admissions ≡ service.now.limits.count }
     requires named { H.Rules.named rules.now ≡ name_of (yard_rules yard) }
     requires may { MayStartEach (IsFoundFor H.Places.met (H.Rules.gives rules.now) H.Handle.opened)
         H.File.honest H.File.sound plan.now (H.Starter.may starter.now) }
-    ensures faults { result.end ≡ AcceptFaults → FailedToAccept (suffices service.now.supply) result.errors.count }
 {
     let live = yard.live();
     let _ = log.lock(rt).status(live);
@@ -143,19 +149,21 @@ where
         seen,
     } = entrance;
     let teller = teller.into_inner();
-    close(end, errors, seen, site, back, admitter, teller)
+    end_of(close(end, errors, supply, seen, site, back, admitter, teller))
 }
 
 // Closes a site with both of its callers, and looks whether each connection that is alive still is retired.
 fn close<H: Host>(
     end: ServeEnd,
     errors: Errors,
+    supply: Supply,
     seen: Seen<H::Places>,
     site: Site<H>,
     back: BackCallers<H::Callers>,
     admitter: CallerOf<H>,
     teller: CallerOf<H>,
 ) -> Closed<H>
+    requires faults { end ≡ AcceptFaults → FailedToAccept (suffices supply) errors.count }
     requires places { end ≡ NoPlaces → IsTrue (is_some seen.retired) }
     requires spent { end ≡ Spent → IsTrue (is_some seen.spent) }
     requires count { EndsAtCount end H.Callers.admissions (caller_share admitter) }
@@ -178,6 +186,7 @@ fn close<H: Host>(
         has_lost,
         yard,
         errors,
+        supply,
         seen,
         admitter: admitter_then,
         teller: teller_then,

@@ -11,17 +11,16 @@ use server_parts::{RulesOnDisk, ServerFailure};
 use server_yard::Assumptions;
 use shared_site::{Callers, Ground};
 use std::fs::{File, Files};
-use std::io::{Empty, Read, Sink, Write};
+use std::io::{Read, Write};
 use std::marker::PhantomData;
 use std::net::{Net, OpenListener, TcpStream};
-use std::os::fd::AsRawFd;
 use std::process::{ChildStdin, OpenProcess, Processes};
 use std::rt::Env;
 use std::sync::{Mutex, Wait};
 use std::thread::Threads;
 use std::time::Clock;
 use tcp_service::{AgentGround, Host};
-use tcp_streams::{Holder, ProgramStarter, ServiceJob};
+use tcp_streams::{Connection, ProgramStarter, ServiceJob};
 
 /// What the tool has of the system. It is a name for these types together, and has no values.
 pub(crate) trait System {
@@ -40,7 +39,7 @@ pub(crate) trait System {
     type Folder: Read + Send + Sync + Drop;
 
     /// A socket that listens.
-    type Listener: OpenListener<Stream = TcpStream> + AsRawFd + Send + Sync + Drop;
+    type Listener: OpenListener<Stream = TcpStream> + Send + Drop;
 
     /// A program that was started, with the ends of its pipes.
     type Process: OpenProcess<
@@ -83,7 +82,7 @@ where
     R: Env + Print + AllocGlobal + Files<File = File> + Processes + Threads + Wait + Clock + Sync,
     R: Net<Stream = TcpStream>,
     R::Dir: Send + Sync,
-    R::Listener: Send + Sync,
+    R::Listener: Send,
     R::Started: OpenProcess<Stdin = ChildStdin> + Send,
     <R::Started as OpenProcess>::Stdout: Send,
     <R::Started as OpenProcess>::Stderr: Send,
@@ -141,13 +140,9 @@ impl<'a, P: System, L: Assumptions + Send + Sync, N: Callers + Send + Sync> Agen
 
 impl<'a, P: System, L: Assumptions + Send + Sync, N: Callers + Send + Sync> Host
     for OnSystem<'a, P, L, N> {
-    type Holder = Holder<'a, P::Runtime>;
+    type Connection = Connection<'a, P::Runtime>;
 
     type Starter = ProgramStarter<'a, P::Runtime, P::Errors>;
 
     type Job = ServiceJob<'a, P::Runtime, P::Errors>;
-
-    type Input = Sink;
-
-    type Output = Empty;
 }

@@ -13,7 +13,7 @@ ghost use Rattle.server_yard.specs.Yards.{name_of, yard_books, yard_rules, yard_
 ghost use Rattle.stream_tools.specs.Programs.{text_in, texts_of};
 ghost use Rattle.tcp_streams.specs.Asked.{IsAskedPassing, passing_of};
 
-use crate::ends::{Finished, end_of};
+use crate::ends::Finished;
 use crate::no_folder::NoFolder;
 use crate::rules::FolderRules;
 use crate::serving::{CALLERS, serve};
@@ -69,7 +69,7 @@ where
     R: Env + Print + AllocGlobal + Files<File = File> + Processes + Threads + Wait + Clock + Sync,
     R: Net<Stream = TcpStream>,
     R::Dir: Send + Sync,
-    R::Listener: Send + Sync,
+    R::Listener: Send,
     R::Started: OpenProcess<Stdin = ChildStdin> + Send,
     <R::Started as OpenProcess>::Stdout: Send,
     <R::Started as OpenProcess>::Stderr: Send,
@@ -238,7 +238,7 @@ fn open_socket<'a, P: System>(
         let _ = log.lock(rt).listening(end.ip().octets(), end.port());
     }
     let at_once = words.sends_at_once();
-    Ok(SocketAcceptor::new(rt, rt.alloc(), listener, at_once))
+    Ok(SocketAcceptor::new(rt, listener, at_once))
 }
 
 // Tells a person where rules are by names that clients don't have.
@@ -286,7 +286,7 @@ fn run_site<'a, L: Assumptions + Send + Sync, N: Callers + Send + Sync, P: Syste
         at,
         yard: PhantomData,
     };
-    let served = serve::<OnSystem<'a, P, L, N>, SocketAcceptor<'a, P::Runtime, P::Listener>>(
+    serve::<OnSystem<'a, P, L, N>, SocketAcceptor<'a, P::Runtime, P::Listener>>(
         rt,
         alloc,
         acceptor,
@@ -297,8 +297,7 @@ fn run_site<'a, L: Assumptions + Send + Sync, N: Callers + Send + Sync, P: Syste
         &server.plan,
         &server.service,
         &server.log,
-    );
-    end_of(served)
+    )
 }
 
 // A yard of this rules file, with the limits of the words.

@@ -23,7 +23,7 @@ use std::io::Write;
 /// Serves a connection that a yard let in, up to the start of its child, as `serve_one` does. Over an honest directory
 /// its calls are those that serve one connection (`server_yard::laws::served`), and the last of them is the answer. So
 /// their events prolong each history of the headline that led to the yard before, and it leads to the yard afterwards.
-pub fn serve_by_yard<L: Assumptions, D: Dir + Drop, S: Launcher + Drop, W: Write>(
+pub fn serve_by_yard<L: Assumptions, D: Dir + Drop, S: Launcher + Write + Drop>(
     alloc: Global,
     agent: &mut YardAgent<L, D>,
     place: Place<L>,
@@ -32,7 +32,7 @@ pub fn serve_by_yard<L: Assumptions, D: Dir + Drop, S: Launcher + Drop, W: Write
     local: &Local,
     plan: &Plan,
     launcher: S,
-    writer: &mut W,
+    greeter: &mut S,
 ) -> Served<L, S::Job>
     requires admitted { StandsAt agent.old.yard place serial peer.now stage.Admitted }
     requires may { (program : ProgramText) (environment : Variables) → IsTrue (S.may launcher program environment) }
@@ -46,6 +46,6 @@ pub fn serve_by_yard<L: Assumptions, D: Dir + Drop, S: Launcher + Drop, W: Write
     ensures gone { UnlessRunning result (IsGoneFrom agent.new.yard serial) }
 {
     serve_one(
-        alloc, agent, place, serial, peer, local, plan, launcher, writer,
+        alloc, agent, place, serial, peer, local, plan, launcher, greeter,
     )
 }

@@ -24,16 +24,15 @@ greets_dropped old new banner fails is_shared before now cause.Directory wrote d
 greets_dropped old new banner fails is_shared before now cause.ReadFault wrote drops = wrote
 greets_dropped old new banner fails is_shared before now cause.Damaged wrote drops = wrote
 greets_dropped old new banner fails is_shared before now cause.Memory wrote drops = wrote
-greets_dropped old new banner fails is_shared before now cause.NoThread wrote drops = wrote
 
 pub returns-in-Deny-clause-greeted : goal.returns-in-Deny-clause-greeted
 returns-in-Deny-clause-greeted g c =
-    subst (λ banner. Appends (g.W.Write.contents c.args.writer.now) (g.W.Write.contents c.greet.new.writer) banner) c.banner.ensures c.in_default.ensures.greeted
+    subst (λ banner. Appends (g.S.Write.contents c.args.greeter.now) (g.S.Write.contents c.greet.new.writer) banner) c.banner.ensures c.in_default.ensures.greeted
 
 pub returns-in-Err-prepare-clause-greeted : goal.returns-in-Err-prepare-clause-greeted
 returns-in-Err-prepare-clause-greeted g c =
-    let old = g.W.Write.contents c.args.writer.now in
-    let new = g.W.Write.contents c.greet.new.writer in
+    let old = g.S.Write.contents c.args.greeter.now in
+    let new = g.S.Write.contents c.greet.new.writer in
     let wrote : Appends old new c.args.plan.now.banner = subst (λ banner. Appends old new banner) c.banner.ensures c.in_default.ensures.greeted in
     let fails = FailsFor (WasFound (g.D.Agent.found c.prepare.new.agent) (g.D.Agent.finds c.args.agent.now)) g.D.Agent.honest g.D.Agent.sound c.args.peer.now in
     greets_dropped old new c.args.plan.now.banner fails g.D.Agent.is_shared (g.D.Agent.failures c.args.agent.now) (g.D.Agent.failures c.prepare.new.agent) c.in-Err-prepare.cause wrote c.in-Err-prepare.ensures.dropped

@@ -6,13 +6,13 @@ use Rattle.stream_tools.proofs.between.serve.Goals as goal
 pub returns-clause-input : goal.returns-clause-input
 returns-clause-input g c =
     IfSome_then c.pump_both.result c.pump_both.ensures.input (λ pumps ran. record {
-      to = c.in-Ok.to;
+      to = c.in-Some.to;
       watched = c.new.result;
       reader = c.new.ensures.reader;
-      under = subst (λ watch. FnOnceReturnsAt g.F.FnOnce c.args.watch c.in-Ok.to watch) (sym c.new.ensures.watch) (_, c.watch.ensures, refl);
+      under = subst (λ watch. FnOnceReturnsAt g.F.FnOnce c.args.watch c.in-Some.to watch) (sym c.new.ensures.watch) (_, c.watch.ensures, refl);
       ran = ran;
     })
 
 pub returns-clause-output : goal.returns-clause-output
 returns-clause-output g c =
-    IfSome_then c.pump_both.result c.pump_both.ensures.output (λ pumps ran. record { from = c.in-Ok.from; ran = ran })
+    IfSome_then c.pump_both.result c.pump_both.ensures.output (λ pumps ran. record { from = c.in-Some.from; ran = ran })

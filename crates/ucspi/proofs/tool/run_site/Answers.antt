@@ -4,7 +4,7 @@ use denote.Param.Send.{sendable}
 use Rattle.tcp_streams.proofs.Crossing.{job_send}
 use Rattle.ucspi.proofs.tool.run_site.Goals as goal
 
-pub serve-served-requires-send-H-Job : goal.serve-served-requires-send-H-Job
-serve-served-requires-send-H-Job g c κs within =
+pub serve-requires-send-H-Job : goal.serve-requires-send-H-Job
+serve-requires-send-H-Job g c κs within =
     let job = job_send (record { mir = named 3; lft = κs.1.1.1.0 }) _ _ c.type_bounds.sync-P-Runtime c.type_bounds.send-P-Errors in
     search sendable depth 6
