@@ -1,10 +1,10 @@
 -- How many connections a server let in, and when it ends by faults of accepting.
 use Rattle.std.specs.Option.{ForSome}
 use Rattle.std.specs.Prelude.{◌≡◌, ◌≢◌, ◌+◌, ◌≤◌, ◌&&◌, ◌⊎◌, ℕ, Bool, true, false, nat_le, nat_lt, Option, None, Some, Result, Ok, Err, ⊤}
-use Rattle.tcp_connections.specs.declared.admission.Refused.{Refused}
-use Rattle.tcp_connections.specs.declared.admission.Refused.TheVariants.{Once, Spent}
-use Rattle.tcp_connections.specs.declared.admission.ServeEnd.{ServeEnd}
-use Rattle.tcp_connections.specs.declared.admission.ServeEnd.TheVariants as end
+use Rattle.tcp_connections.specs.declared.serving.Refused.{Refused}
+use Rattle.tcp_connections.specs.declared.serving.Refused.TheVariants.{Once, Spent}
+use Rattle.tcp_connections.specs.declared.serving.ServeEnd.{ServeEnd}
+use Rattle.tcp_connections.specs.declared.serving.ServeEnd.TheVariants as end
 use Rattle.tcp_connections.specs.declared.supply.Memory.{Memory}
 use Rattle.tcp_connections.specs.declared.supply.Supply.{Supply}
 
@@ -36,6 +36,6 @@ may_begin (Some memory) = nat_lt 0 memory.at_once
 abbrev pub suffices : Supply → Bool
 suffices supply = nat_le supply.to_begin supply.descriptors && may_begin supply.memory
 
--- there was too little for one connection, or the last hundred answers were errors, of which so many came in succession
-abbrev pub FailedToAccept : (suffices : Bool) → (errors : ℕ) → Type 0
-FailedToAccept suffices errors = (suffices ≡ false) ⊎ (errors ≡ 100)
+-- there was too little for one connection, or so many faults came in succession
+abbrev pub FailedToAccept : (suffices : Bool) → (faults : ℕ) → Type 0
+FailedToAccept suffices faults = (suffices ≡ false) ⊎ (faults ≡ 100)

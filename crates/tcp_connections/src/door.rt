@@ -2,51 +2,50 @@
 ghost use Rattle.std.specs.Option.{ForSome};
 ghost use Rattle.std.specs.Prelude.{◌≡◌, ◌≢◌, ◌⊎◌, ◌+◌, ◌≤◌, None, Some, true, false, IfSome, IsTrue, min};
 ghost use Rattle.tcp_connections.specs.Admissions.{EndsAtCount, LetsInAtMost};
-ghost use Rattle.tcp_connections.specs.declared.admission.ServeEnd.TheVariants.{AcceptFaults, Count, NoPlaces, Spent};
+ghost use Rattle.tcp_connections.specs.declared.serving.ServeEnd.TheVariants.{AcceptFaults, Count, NoPlaces, Spent};
 
 use crate::accepting::{AcceptError, Acceptor};
-use crate::admission::{Admission, Refused, ServeEnd};
 use crate::means::{Permit, pause_after};
+use crate::serving::{Refused, ServeEnd, Serving};
 use crate::supply::Supply;
 use std::time::Duration;
 
-/// How many faults of accepting in succession end a server.
-const FAULTS: u32 = 100;
+/// So many faults of accepting in succession end a server.
+const MOST: u32 = 100;
 
 /// The system's numbers for want of descriptors (`EMFILE`) and of memory (`ENOMEM`).
 const TOO_MANY_OPEN_FILES: i32 = 24;
 
 const NO_MEMORY: i32 = 12;
 
-/// The errors of accepting that came in succession, since the last connection or since the server began.
+/// The faults of accepting that came in succession, since the last connection or since the server began. An error for
+/// want of room is none while a connection is served.
 #[derive(Clone, Copy)]
-pub struct Errors {
+pub struct Faults {
     /// How many, up to a hundred.
     pub count: u32,
-    // how many of them count as faults, and how many were for want of room
-    faults: u32,
+    // how many errors were for want of room, faults or not
     lacking: u32,
-    /// The system's number of the last error that came (`errno`), if it had one; or that of what there was too little of
-    /// for one connection.
+    /// The system's number of the last fault (`errno`), if it had one; or that of what there was too little of for one
+    /// connection.
     pub last: Option<i32>,
 }
 
-impl Errors {
+impl Faults {
     /// None came yet.
-    pub(crate) fn none() -> Errors
+    pub(crate) fn none() -> Faults
         ensures none { result.count ≡ 0 }
         ensures unknown { result.last ≡ None }
     {
-        Errors {
+        Faults {
             count: 0,
-            faults: 0,
             lacking: 0,
             last: None,
         }
     }
 
     /// None came: there is too little for one connection. The system's number says of what.
-    pub(crate) fn of_too_little(supply: &Supply) -> Errors
+    pub(crate) fn of_too_little(supply: &Supply) -> Faults
         ensures none { result.count ≡ 0 }
         ensures told { result.last ≢ None }
     {
@@ -55,9 +54,9 @@ impl Errors {
         } else {
             NO_MEMORY
         };
-        Errors {
+        Faults {
             last: Some(lacks),
-            ..Errors::none()
+            ..Faults::none()
         }
     }
 
@@ -66,7 +65,7 @@ impl Errors {
         ensures one_more { self.new.count ≡ min 100 (self.old.count + 1) }
         ensures last { self.new.last ≡ error.number }
     {
-        self.count = FAULTS.min(self.count.saturating_add(1));
+        self.count = MOST.min(self.count.saturating_add(1));
         self.last = error.number;
     }
 
@@ -76,42 +75,41 @@ impl Errors {
         ensures last { self.new.last ≡ self.old.last }
     {
         self.count = 0;
-        self.faults = 0;
         self.lacking = 0;
     }
 }
 
 /// The door: whoever has its lock waits for the next connection, and lets it in.
 #[derive(Drop)]
-pub(crate) struct Door<A, Q: Admission> {
+pub(crate) struct Door<A, V: Serving> {
     // where connections come from; none once nobody is let in any more
     acceptor: Option<A>,
-    admission: Q,
+    entrance: V::Entrance,
     // how many more are let in before the server ends, if it ends by their number
     left: Option<u32>,
     // how it ended, if not by that
     end: Option<ServeEnd>,
-    errors: Errors,
-    ghost within: { end ≢ Some Spent → ForSome left (λ more. Q.count ≡ Some (Q.let_in admission + more)) },
-    ghost endless: { left ≡ None → Q.count ≡ None },
+    faults: Faults,
+    ghost within: { end ≢ Some Spent → ForSome left (λ more. V.count ≡ Some (V.let_in entrance + more)) },
+    ghost endless: { left ≡ None → V.count ≡ None },
     ghost otherwise: { end ≢ Some Count },
-    ghost by_faults: { end ≡ Some AcceptFaults → errors.count ≡ 100 },
-    ghost by_places: { end ≡ Some NoPlaces → IsTrue (Q.all_retired admission) },
-    ghost by_numbers: { end ≡ Some Spent → IsTrue (Q.is_spent admission) },
+    ghost by_faults: { end ≡ Some AcceptFaults → faults.count ≡ 100 },
+    ghost by_places: { end ≡ Some NoPlaces → IsTrue (V.all_retired entrance) },
+    ghost by_numbers: { end ≡ Some Spent → IsTrue (V.is_spent entrance) },
 }
 
-impl<A: Acceptor<Came = Q::Came> + Drop, Q: Admission> Door<A, Q> {
+impl<A: Acceptor<Came = V::Came> + Drop, V: Serving> Door<A, V> {
     /// A door through which nobody came yet. The server ends once so many were let in.
-    pub fn new(acceptor: A, admission: Q, count: Option<u32>) -> Door<A, Q>
-        requires nobody { Q.let_in admission ≡ 0 }
-        requires count { Q.count ≡ count }
+    pub fn new(acceptor: A, entrance: V::Entrance, count: Option<u32>) -> Door<A, V>
+        requires nobody { V.let_in entrance ≡ 0 }
+        requires count { V.count ≡ count }
     {
         Door {
             acceptor: Some(acceptor),
-            admission,
+            entrance,
             left: count,
             end: None,
-            errors: Errors::none(),
+            faults: Faults::none(),
         }
     }
 
@@ -124,28 +122,28 @@ impl<A: Acceptor<Came = Q::Came> + Drop, Q: Admission> Door<A, Q> {
     }
 
     /// Waits for the next connection, if there is what it takes. `None` once the door is closed.
-    pub fn accept(&self, _permit: &Permit) -> Option<Result<Q::Came, AcceptError>> {
+    pub fn accept(&self, _permit: &Permit) -> Option<Result<V::Came, AcceptError>> {
         Some(self.acceptor.as_ref()?.accept())
     }
 
     /// Drops the acceptor.
     pub fn close(&mut self)
         ensures end { self.new.end ≡ self.old.end }
-        ensures same { self.new.errors ≡ self.old.errors }
+        ensures same { self.new.faults ≡ self.old.faults }
     {
         self.acceptor = None;
     }
 
-    /// Lets a connection in, if it is not refused. It ends the succession of errors.
-    pub fn admit(&mut self, _permit: &Permit, came: Q::Came) -> Option<Q::Work>
+    /// Lets a connection in, if it is not refused. It ends the succession of faults.
+    pub fn admit(&mut self, _permit: &Permit, server: &V, came: V::Came) -> Option<V::Work>
         requires open { self.old.end ≡ None }
         requires more { self.old.left ≢ Some 0 }
-        ensures its { IfSome result (Q.is_its came) }
-        ensures anew { self.new.errors.count ≡ 0 }
-        ensures last { self.new.errors.last ≡ self.old.errors.last }
+        ensures its { IfSome result (V.is_its server.now came) }
+        ensures anew { self.new.faults.count ≡ 0 }
+        ensures last { self.new.faults.last ≡ self.old.faults.last }
     {
-        self.errors.end();
-        match self.admission.admit(came) {
+        self.faults.end();
+        match server.admit(&mut self.entrance, came) {
             Ok(work) => {
                 if let Some(left) = self.left {
                     self.left = Some(left - 1);
@@ -160,68 +158,58 @@ impl<A: Acceptor<Came = Q::Came> + Drop, Q: Admission> Door<A, Q> {
         }
     }
 
-    /// No connection came, by this error.
-    pub fn note(&mut self, error: AcceptError)
-        ensures one_more { self.new.errors.count ≡ min 100 (self.old.errors.count + 1) }
-        ensures last { self.new.errors.last ≡ error.number }
-    {
-        self.errors.add(error);
-    }
-
     /// The pause after one more error for want of room.
     pub fn next_pause(&mut self) -> Duration
-        ensures same { self.new.errors.count ≡ self.old.errors.count }
-        ensures last { self.new.errors.last ≡ self.old.errors.last }
+        ensures same { self.new.faults.count ≡ self.old.faults.count }
+        ensures last { self.new.faults.last ≡ self.old.faults.last }
     {
-        self.errors.lacking = self.errors.lacking.saturating_add(1);
-        pause_after(self.errors.lacking)
+        self.faults.lacking = self.faults.lacking.saturating_add(1);
+        pause_after(self.faults.lacking)
     }
 
-    /// Counts a fault of accepting: the last of a hundred ends the server.
-    pub fn count_fault(&mut self)
-        ensures same { self.new.errors.count ≡ self.old.errors.count }
-        ensures last { self.new.errors.last ≡ self.old.errors.last }
+    /// No connection came, by this error, and that is a fault: the last of a hundred ends the server.
+    pub fn add_fault(&mut self, error: AcceptError)
+        ensures one_more { self.new.faults.count ≡ min 100 (self.old.faults.count + 1) }
+        ensures last { self.new.faults.last ≡ error.number }
     {
-        if self.errors.faults < self.errors.count {
-            self.errors.faults += 1;
-        }
-        if !self.is_over() && self.errors.faults >= FAULTS && self.errors.count == FAULTS {
+        self.faults.add(error);
+        if !self.is_over() && self.faults.count == MOST {
             self.end = Some(ServeEnd::AcceptFaults);
         }
     }
 
     /// Ends the server, unless it has ended: all places are retired, or else there is no memory for it or no thread that
     /// serves anybody.
-    pub fn give_up(&mut self)
+    pub fn give_up(&mut self, server: &V)
         ensures kept { self.old.end ≢ None → self.new.end ≡ self.old.end }
-        ensures same { self.new.errors ≡ self.old.errors }
+        ensures same { self.new.faults ≡ self.old.faults }
     {
         if self.is_over() {
             return;
         }
-        self.end = if self.admission.has_places() {
+        self.end = if server.has_places(&mut self.entrance) {
             Some(ServeEnd::OutOfMemory)
         } else {
             Some(ServeEnd::NoPlaces)
         };
     }
 
-    /// How the server ended, its admission, and the errors of accepting that came last. The acceptor is dropped.
-    pub fn into_end(self) -> (ServeEnd, Q, Errors)
-        ensures count { EndsAtCount result.0 Q.count (Q.let_in result.1) }
-        ensures no_more { LetsInAtMost result.0 Q.count (Q.let_in result.1) }
-        ensures reached { Q.count ≡ Some (Q.let_in result.1) → (result.0 ≡ Count) ⊎ (result.0 ≡ Spent) }
-        ensures errors { result.2 ≡ self.errors }
+    /// How the server ended, its entrance, and the faults of accepting that came last. The acceptor is dropped.
+    pub fn into_end(self) -> (ServeEnd, V::Entrance, Faults)
+        ensures count { EndsAtCount result.0 V.count (V.let_in result.1) }
+        ensures no_more { LetsInAtMost result.0 V.count (V.let_in result.1) }
+        ensures reached { V.count ≡ Some (V.let_in result.1) → (result.0 ≡ Count) ⊎ (result.0 ≡ Spent) }
+        ensures kept { result.2 ≡ self.faults }
         ensures faults { result.0 ≡ AcceptFaults → result.2.count ≡ 100 }
-        ensures places { result.0 ≡ NoPlaces → IsTrue (Q.all_retired result.1) }
-        ensures spent { result.0 ≡ Spent → IsTrue (Q.is_spent result.1) }
+        ensures places { result.0 ≡ NoPlaces → IsTrue (V.all_retired result.1) }
+        ensures spent { result.0 ≡ Spent → IsTrue (V.is_spent result.1) }
     {
         let Door {
             acceptor,
-            admission,
+            entrance,
             left,
             end,
-            errors,
+            faults,
         } = self;
         drop(acceptor);
         let end = match (end, left) {
@@ -229,6 +217,6 @@ impl<A: Acceptor<Came = Q::Came> + Drop, Q: Admission> Door<A, Q> {
             (_, Some(0)) => ServeEnd::Count,
             (end, _) => end.unwrap_or(ServeEnd::OutOfMemory),
         };
-        (end, admission, errors)
+        (end, entrance, faults)
     }
 }

@@ -10,21 +10,21 @@
 #![tactic(auto)]
 
 pub mod accepting;
-pub mod admission;
 pub mod door;
 mod means;
 pub mod names;
 pub mod rounds;
+pub mod serving;
 pub mod starting;
 pub mod supply;
 mod threads;
 pub mod workers;
 
 pub use accepting::{AcceptError, Accepted, Acceptor};
-pub use admission::{Admission, Refused, ServeEnd, Serving};
-pub use door::Errors;
+pub use door::Faults;
 pub use names::HostNames;
 pub use rounds::wait_in_rounds;
+pub use serving::{Refused, ServeEnd, Serving};
 pub use starting::{ConnectionLauncher, Starter};
 pub use supply::{Memory, Reserve, Supply};
 pub use workers::Workers;

@@ -1,8 +1,8 @@
 //! The threads of connections.
 ghost use Rattle.std.specs.Thread.{IsSend, IsSync};
 
-use crate::admission::Serving;
 use crate::means::{Means, Permit};
+use crate::serving::Serving;
 use crate::supply::Reserve;
 use std::sync::Wait;
 use std::thread;

@@ -1,13 +1,13 @@
 //! Workers: each lets one connection after another in, and serves it up to the start of its program or to its end.
-ghost use Rattle.std.specs.Prelude.{◌≡◌, ◌≢◌, ◌⊎◌, IsTrue, None, Some};
+ghost use Rattle.std.specs.Prelude.{◌≡◌, ◌⊎◌, IsTrue, Some};
 ghost use Rattle.std.specs.Thread.{IsSend, IsSync};
 ghost use Rattle.tcp_connections.specs.Admissions.{EndsAtCount, FailedToAccept, LetsInAtMost, suffices};
-ghost use Rattle.tcp_connections.specs.declared.admission.ServeEnd.TheVariants.{AcceptFaults, Count, NoPlaces, Spent};
+ghost use Rattle.tcp_connections.specs.declared.serving.ServeEnd.TheVariants.{AcceptFaults, Count, NoPlaces, Spent};
 
 use crate::accepting::{AcceptError, Acceptor};
-use crate::admission::{Admission, ServeEnd, Serving};
-use crate::door::{Door, Errors};
+use crate::door::{Door, Faults};
 use crate::means::{Means, Permit};
+use crate::serving::{ServeEnd, Serving};
 use crate::supply::{MemoryLook, Reserve, Supply};
 use crate::threads::{GoingOn, connection_thread, has_processes, start_going_on, start_waiting};
 use std::alloc::Global;
@@ -26,7 +26,7 @@ pub struct Workers<'a, R, V: Serving, A> {
     rt: &'a R,
     server: &'a V,
     // whoever has its lock waits for the next connection, and lets it in
-    door: Mutex<Door<A, V::Entrance>>,
+    door: Mutex<Door<A, V>>,
     memory: MemoryLook,
     // whether there is memory for a process in reserve
     has_reserve: bool,
@@ -43,18 +43,17 @@ impl<'a, R, V, A> Workers<'a, R, V, A>
 where
     R: Threads + Wait + Clock + Sync,
     V: Serving + Sync,
-    V::Entrance: Admission<Came = A::Came> + Send + Drop,
-    A: Acceptor + Send + Drop,
+    A: Acceptor<Came = V::Came> + Send + Drop,
 {
     /// Lets connections of `acceptor` in until `count` were let in or no more can be. Then it drops the acceptor, waits
-    /// until all that were let in are over, and gives `entrance` back with the errors of accepting that came last. At most
+    /// until all that were let in are over, and gives `entrance` back with the faults of accepting that came last. At most
     /// `most` connections are alive at once. Each worker accepts one, lets it in, and serves it until its program runs. It
     /// goes on with few itself, and with one of many a thread does that ends with it. This thread makes one more worker
     /// whenever none waits for a connection.
     ///
-    /// The count begins at 0, since nobody was let in by `entrance` before. By faults of accepting it ends only if the
-    /// last hundred answers of the acceptor were errors, or if `supply` doesn't suffice for one connection. For want of
-    /// places it ends only if all were seen retired, and for want of numbers only if the last one was seen given.
+    /// The count begins at 0, since nobody was let in by `entrance` before. By faults of accepting it ends only if a
+    /// hundred came since the last connection, or if `supply` doesn't suffice for one connection. For want of places it
+    /// ends only if all were seen retired, and for want of numbers only if the last one was seen given.
     pub fn serve_through(
         rt: &'a R,
         alloc: Global,
@@ -65,23 +64,23 @@ where
         count: Option<u32>,
         supply: Supply,
         reserve: &'a Reserve,
-    ) -> (ServeEnd, V::Entrance, Errors)
-        requires nobody { V.Entrance.let_in entrance ≡ 0 }
-        requires count { V.Entrance.count ≡ count }
-        ensures count { EndsAtCount result.0 count (V.Entrance.let_in result.1) }
-        ensures no_more { LetsInAtMost result.0 count (V.Entrance.let_in result.1) }
-        ensures reached { IsTrue (suffices supply) → count ≡ Some (V.Entrance.let_in result.1)
+    ) -> (ServeEnd, V::Entrance, Faults)
+        requires nobody { V.let_in entrance ≡ 0 }
+        requires count { V.count ≡ count }
+        ensures count { EndsAtCount result.0 count (V.let_in result.1) }
+        ensures no_more { LetsInAtMost result.0 count (V.let_in result.1) }
+        ensures reached { IsTrue (suffices supply) → count ≡ Some (V.let_in result.1)
             → (result.0 ≡ Count) ⊎ (result.0 ≡ Spent) }
         ensures faults { result.0 ≡ AcceptFaults → FailedToAccept (suffices supply) result.2.count }
-        ensures places { result.0 ≡ NoPlaces → IsTrue (V.Entrance.all_retired result.1) }
-        ensures spent { result.0 ≡ Spent → IsTrue (V.Entrance.is_spent result.1) }
+        ensures places { result.0 ≡ NoPlaces → IsTrue (V.all_retired result.1) }
+        ensures spent { result.0 ≡ Spent → IsTrue (V.is_spent result.1) }
     {
         if !supply.suffices() {
             drop(acceptor);
             return (
                 ServeEnd::AcceptFaults,
                 entrance,
-                Errors::of_too_little(&supply),
+                Faults::of_too_little(&supply),
             );
         }
         let means = Means::new(supply, most);
@@ -128,7 +127,7 @@ where
             self.make_worker(scope);
         }
         let mut door = self.door.lock(self.rt);
-        door.give_up();
+        door.give_up(self.server);
         self.end(&mut door);
     }
 
@@ -205,7 +204,7 @@ where
             };
             match door.accept(&permit) {
                 Some(Ok(came)) => {
-                    if let Some(work) = door.admit(&permit, came) {
+                    if let Some(work) = door.admit(&permit, self.server, came) {
                         if door.is_over() {
                             self.end(&mut door);
                         }
@@ -225,10 +224,9 @@ where
         None
     }
 
-    // Counts an error of accepting. After one for want of descriptors or memory it waits first. If a connection was
-    // served then, the error is none of the hundred.
-    fn pause(&self, door: &mut Door<A, V::Entrance>, error: AcceptError) {
-        door.note(error);
+    // Counts a fault of accepting. After an error for want of descriptors or memory it waits first. If a connection was
+    // served then, the error is no fault.
+    fn pause(&self, door: &mut Door<A, V>, error: AcceptError) {
         if error.lacks_room {
             let pause = door.next_pause();
             if self.means.wait_for_change(self.rt, pause) {
@@ -236,11 +234,11 @@ where
             }
             thread::sleep(self.rt, pause);
         }
-        door.count_fault();
+        door.add_fault(error);
     }
 
     // Nobody is let in any more: no worker waits for a connection, and the acceptor is dropped.
-    fn end(&self, door: &mut Door<A, V::Entrance>) {
+    fn end(&self, door: &mut Door<A, V>) {
         self.means.end(self.rt);
         door.close();
     }

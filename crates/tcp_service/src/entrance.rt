@@ -1,17 +1,15 @@
 //! How a connection that was accepted is let in: named and counted.
-ghost use Rattle.std.specs.Prelude.{◌≡◌, ◌-◌, ◌^◌, ⊤, IfSome, IsTrue, Some, is_some};
+ghost use Rattle.std.specs.Prelude.{◌≡◌, ◌-◌, ◌^◌, ⊤, IfSome, IsTrue, is_some};
 ghost use Rattle.server_yard.specs.declared.register.AdmitFault.TheVariants.{Spent};
 ghost use Rattle.shared_site.specs.Callers.{caller_share};
 ghost use Rattle.shared_site.specs.Receipts.{AdmitsOrNot, receipt_of, refusal_fault};
 ghost use Rattle.shared_site.specs.Turns.{told_if_admitted};
 ghost use Rattle.tcp_connections.specs.Admissions.{LetsIn, OnSpent};
 ghost use Rattle.tcp_connections.specs.Names.{client_at, local_at};
-ghost use Rattle.tcp_service.specs.Accepting.{IsAccepted};
 ghost use Rattle.tcp_service.specs.Lives.{AdmitsOwn};
 
-use crate::host::{AgentGround, Host};
-use crate::life::Admitted;
-use crate::server::{AgentContext, Server};
+use crate::host::AgentGround;
+use crate::server::AgentContext;
 use child_jobs::{DropCause, Local, Place};
 use rule_lookup::Peer;
 use server_log::{Log, Told};
@@ -19,9 +17,8 @@ use server_yard::{AdmitFault, Assumptions, Leaving};
 use shared_site::site::{Admit, Left};
 use shared_site::{AllRetired, CallerOf, Ground, Made, Refusal, Turn, YardOf};
 use std::alloc::Global;
-use std::snapshot::Snapshot;
 use std::sync::Mutex;
-use tcp_connections::{Accepted, Admission, HostNames, Refused};
+use tcp_connections::{Accepted, HostNames, Refused};
 
 /// Evidence that no number is left, of a connection or of an event.
 #[derive(Drop)]
@@ -68,72 +65,17 @@ impl<L: Assumptions> Seen<L> {
 /// Lets the connections of an acceptor in, by a caller of a site that makes no other events: its share is how many were
 /// let in.
 #[derive(Drop)]
-pub struct Entrance<'a, H: Host> {
-    pub server: &'a Server<'a, H>,
-    pub admitter: CallerOf<H>,
-    pub seen: Seen<H::Places>,
+pub struct Entrance<G: Ground> {
+    pub admitter: CallerOf<G>,
+    pub seen: Seen<G::Places>,
 }
 
-impl<'a, H: Host> Admission for Entrance<'a, H>
-where
-    H::Connection: Send,
-{
-    type Came = Accepted<H::Connection>;
-
-    type Work = Admitted<'a, H>;
-
-    ghost is_its = { λ came work.
-        IsAccepted work.server.now.service.now.names work.peer work.local work.connection came };
-
-    ghost count = { H.Callers.admissions };
-
-    ghost let_in = { λ entrance. caller_share entrance.admitter };
-
-    ghost all_retired = { λ entrance. is_some entrance.seen.retired };
-
-    ghost is_spent = { λ entrance. is_some entrance.seen.spent };
-
-    fn admit(&mut self, came: Accepted<H::Connection>) -> Result<Admitted<'a, H>, Refused> {
-        let server = self.server;
-        let context = &server.context;
-        let Some((peer, local)) = ends_of(context.alloc, &server.service.names, &came) else {
-            drop(came);
-            let _ = context.log.lock(context.rt).out_of_memory();
-            return Err(Refused::Once);
-        };
-        match admit(context, &mut self.admitter, &mut self.seen.spent, &peer) {
-            Ok((serial, place, made)) => Ok(Admitted {
-                server,
-                serial,
-                place,
-                peer,
-                local,
-                connection: came.connection,
-                made: Snapshot::of(&made),
-            }),
-            Err(refused) => {
-                drop(came);
-                drop(peer);
-                drop(local);
-                Err(refused)
-            }
-        }
-    }
-
-    fn has_places(&mut self) -> bool {
-        let context = &self.server.context;
-        match context.site.retired(context.rt) {
-            None => true,
-            Some(retired) => {
-                self.seen.retired = Some(retired);
-                false
-            }
-        }
-    }
-}
-
-// The two ends of a connection that came, with their names, if there is memory for them.
-fn ends_of<X>(alloc: Global, names: &HostNames, came: &Accepted<X>) -> Option<(Peer, Local)>
+/// The two ends of a connection that came, with their names, if there is memory for them.
+pub(crate) fn ends_of<X>(
+    alloc: Global,
+    names: &HostNames,
+    came: &Accepted<X>,
+) -> Option<(Peer, Local)>
     ensures client { IfSome result (λ ends. ends.0 ≡ client_at names.now came.now.ip came.now.port) }
     ensures end { IfSome result (λ ends. ends.1 ≡ local_at names.now came.now.local.ip came.now.local.port) }
 {
@@ -142,19 +84,22 @@ fn ends_of<X>(alloc: Global, names: &HostNames, came: &Accepted<X>) -> Option<(P
     Some((peer, local))
 }
 
-// Counts a connection: its serial, and its place. Once the last number of an event is given nobody is let in any more.
+/// Counts a connection: its serial, and its place. Once the last number of an event is given nobody is let in any more.
+///
+/// # Errors
+/// It was refused.
 #[tactic(auto, using(crate::proofs::Shares::one_came, crate::proofs::Shares::none_came, crate::proofs::Shares::own_came))]
-fn admit<G: AgentGround>(
+pub(crate) fn admit<G: AgentGround>(
     context: &AgentContext<'_, G>,
-    admitter: &mut CallerOf<G>,
-    spent: &mut Option<NoNumbers>,
+    entrance: &mut Entrance<G>,
     peer: &Peer,
 ) -> Result<AdmittedBy<G>, Refused>
-    ensures came { LetsIn result (caller_share admitter.old) (caller_share admitter.new) }
-    ensures spent { OnSpent result (IsTrue (is_some spent.new)) }
+    ensures came { LetsIn result (caller_share entrance.old.admitter) (caller_share entrance.new.admitter) }
+    ensures spent { OnSpent result (IsTrue (is_some entrance.new.seen.spent)) }
     ensures own { AdmitsOwn result peer.now }
 {
     let (rt, site, log) = (context.rt, context.site, context.log);
+    let Entrance { admitter, seen } = entrance;
     match site.turn(rt, admitter, TellingAdmission::<G> { peer, rt, log }) {
         Ok((serial, place, made)) => {
             if made.at() == u64::MAX {
@@ -164,14 +109,14 @@ fn admit<G: AgentGround>(
                     leaving: Leaving::Dropped(DropCause::Memory),
                 };
                 let _ = site.turn(rt, admitter, turn);
-                *spent = Some(NoNumbers::of_event(&made));
+                seen.spent = Some(NoNumbers::of_event(&made));
                 return Err(Refused::Spent);
             }
             Ok((serial, place, made))
         }
         Err(refusal) => match refusal.fault() {
             AdmitFault::Spent => {
-                *spent = Some(NoNumbers::of_refusal(&refusal));
+                seen.spent = Some(NoNumbers::of_refusal(&refusal));
                 Err(Refused::Spent)
             }
             _ => Err(Refused::Once),
@@ -179,8 +124,8 @@ fn admit<G: AgentGround>(
     }
 }
 
-// Of a connection that was let in: its serial, its place, and the event that its admission made.
-type AdmittedBy<G> = (u64, Place<<G as Ground>::Places>, Made);
+/// Of a connection that was let in: its serial, its place, and the event that its admission made.
+pub(crate) type AdmittedBy<G> = (u64, Place<<G as Ground>::Places>, Made);
 
 // Lets a connection in, or tells why it is refused, before the turn is over.
 struct TellingAdmission<'a, G: AgentGround> {

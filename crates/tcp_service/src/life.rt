@@ -20,8 +20,7 @@ use tcp_connections::ConnectionLauncher;
 
 /// A connection that was let in and whose program was not started yet: the right to what comes next. It is made of what
 /// its admission gave, whose event was of its serial number and its client (`own`).
-pub struct Admitted<'a, H: Host> {
-    pub(crate) server: &'a Server<'a, H>,
+pub struct Admitted<H: Host> {
     pub(crate) serial: u64,
     pub(crate) place: Place<H::Places>,
     pub(crate) peer: Peer,
@@ -35,18 +34,18 @@ pub struct Admitted<'a, H: Host> {
 /// variables of the decision by what this very connection found, for its client and its end. It found that by a new
 /// handle of the rules, which was opened for it. It goes on as an `Alive`.
 pub(crate) struct Started<'a, H: Host> {
-    pub(crate) alive: Alive<'a, H>,
+    pub(crate) server: &'a Server<'a, H>,
+    pub(crate) alive: Alive<H>,
     pub(crate) peer: Snapshot<Peer>,
     pub(crate) found: FoundBy<H>,
     ghost child: { IsOwnChild (kept_opening H.File.bytes found)
-        (IsFoundFor H.Places.met (H.Rules.gives alive.server.now.context.rules.now) H.Handle.opened alive.serial)
-        H.File.honest H.File.sound peer.value alive.local alive.server.now.context.plan.now
+        (IsFoundFor H.Places.met (H.Rules.gives server.now.context.rules.now) H.Handle.opened alive.serial)
+        H.File.honest H.File.sound peer.value alive.local server.now.context.plan.now
         (H.Job.program (job_of alive.running)) (H.Job.environment (job_of alive.running)) },
 }
 
 /// A connection whose program runs: the right to its end. One thread may give it to another.
-pub struct Alive<'a, H: Host> {
-    pub(crate) server: &'a Server<'a, H>,
+pub struct Alive<H: Host> {
     pub(crate) serial: u64,
     pub(crate) running: Running<H::Places, H::Job>,
     pub(crate) local: Local,
@@ -114,12 +113,13 @@ impl<H: Host> Server<'_, H> {
     }
 }
 
-impl<'a, H: Host> Started<'a, H> {
+impl<H: Host> Started<'_, H> {
     /// It goes on, in this thread or another one.
-    pub(crate) fn go_on(self) -> Alive<'a, H>
+    pub(crate) fn go_on(self) -> Alive<H>
         ensures { result ≡ self.entry.alive }
     {
         let Started {
+            server: _,
             alive,
             peer: _,
             found: _,

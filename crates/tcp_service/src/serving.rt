@@ -1,17 +1,19 @@
 //! How a server's connections are served: by the calls that `Workers` makes for each.
-ghost use Rattle.std.specs.Prelude.{◌≡◌, IfOk, IfErr};
+ghost use Rattle.std.specs.Prelude.{◌≡◌, IfOk, IfErr, is_some};
 ghost use Rattle.child_jobs.specs.Runs.{job_of};
+ghost use Rattle.shared_site.specs.Callers.{caller_share};
+ghost use Rattle.tcp_service.specs.Accepting.{IsAccepted};
 ghost use Rattle.tcp_service.specs.Agents.{IsFoundFor, asked};
 ghost use Rattle.tcp_service.specs.Lives.{EndsWithReason, IsDecidedChild, IsEndOfChild};
 
-use crate::entrance::Entrance;
+use crate::entrance::{Entrance, admit, ends_of};
 use crate::host::Host;
 use crate::life::{Admitted, Alive, Over, Started};
 use crate::server::Server;
 use std::snapshot::Snapshot;
-use tcp_connections::{Serving, wait_in_rounds};
+use tcp_connections::{Accepted, Refused, Serving, wait_in_rounds};
 
-impl<'a, H> Serving for Server<'a, H>
+impl<H> Serving for Server<'_, H>
 where
     H: Host,
     H::Runtime: Sync,
@@ -26,39 +28,86 @@ where
     H::Starter: Sync,
     H::Job: Send,
 {
-    type Entrance = Entrance<'a, H>;
+    type Came = Accepted<H::Connection>;
 
-    type Work = Admitted<'a, H>;
+    type Entrance = Entrance<H>;
 
-    type Alive = Alive<'a, H>;
+    type Work = Admitted<H>;
+
+    type Alive = Alive<H>;
 
     type Over = Over;
 
+    ghost is_its = { λ server came admitted.
+        IsAccepted server.service.now.names admitted.peer admitted.local admitted.connection came };
+
+    ghost count = { H.Callers.admissions };
+
+    ghost let_in = { λ entrance. caller_share entrance.admitter };
+
+    ghost all_retired = { λ entrance. is_some entrance.seen.retired };
+
+    ghost is_spent = { λ entrance. is_some entrance.seen.spent };
+
     ghost retired = { λ over. over.is_retired };
+
+    /// A connection gets the names of its ends, and is counted.
+    fn admit(
+        &self,
+        entrance: &mut Entrance<H>,
+        came: Accepted<H::Connection>,
+    ) -> Result<Admitted<H>, Refused> {
+        let context = &self.context;
+        let Some((peer, local)) = ends_of(context.alloc, &self.service.names, &came) else {
+            drop(came);
+            let _ = context.log.lock(context.rt).out_of_memory();
+            return Err(Refused::Once);
+        };
+        match admit(context, entrance, &peer) {
+            Ok((serial, place, made)) => Ok(Admitted {
+                serial,
+                place,
+                peer,
+                local,
+                connection: came.connection,
+                made: Snapshot::of(&made),
+            }),
+            Err(refused) => {
+                drop(came);
+                drop(peer);
+                drop(local);
+                Err(refused)
+            }
+        }
+    }
+
+    fn has_places(&self, entrance: &mut Entrance<H>) -> bool {
+        match self.context.site.retired(self.context.rt) {
+            None => true,
+            Some(retired) => {
+                entrance.seen.retired = Some(retired);
+                false
+            }
+        }
+    }
 
     /// A connection is served, and goes on if its program was started.
     ///
     /// # Errors
     /// It is over: it was denied or given up, or its program could not be started.
-    fn begin(&self, admitted: Admitted<'a, H>) -> Result<Alive<'a, H>, Over>
-        ensures own { IfOk result (λ alive. alive.serial ≡ admitted.entry.serial) }
+    fn begin(&self, admitted: Admitted<H>) -> Result<Alive<H>, Over>
+        ensures own { IfOk result (λ alive. alive.serial ≡ admitted.serial) }
         ensures child { IfOk result (λ alive. IsDecidedChild
-            (IsFoundFor H.Places.met (H.Rules.gives admitted.entry.server.now.context.rules.now) H.Handle.opened
-            admitted.entry.serial)
-            H.File.honest H.File.sound admitted.entry.peer admitted.entry.local
-            admitted.entry.server.now.context.plan.now
+            (IsFoundFor H.Places.met (H.Rules.gives self.now.context.rules.now) H.Handle.opened admitted.serial)
+            H.File.honest H.File.sound admitted.peer admitted.local self.now.context.plan.now
             (H.Job.program (job_of alive.running)) (H.Job.environment (job_of alive.running))) }
-        ensures over { IfErr result (λ over. over.serial ≡ admitted.entry.serial) }
+        ensures over { IfErr result (λ over. over.serial ≡ admitted.serial) }
         ensures reason { IfErr result (λ over. EndsWithReason
-            (IsFoundFor H.Places.met (H.Rules.gives admitted.entry.server.now.context.rules.now) H.Handle.opened
-            admitted.entry.serial)
-            H.File.honest H.File.sound admitted.entry.peer admitted.entry.local
-            admitted.entry.server.now.context.plan.now
-            (H.Starter.refuses admitted.entry.server.now.starter.now admitted.entry.connection) admitted.entry.serial
-            (asked over.last.value)) }
+            (IsFoundFor H.Places.met (H.Rules.gives self.now.context.rules.now) H.Handle.opened admitted.serial)
+            H.File.honest H.File.sound admitted.peer admitted.local self.now.context.plan.now
+            (H.Starter.refuses self.now.starter.now admitted.connection) admitted.serial (asked over.last.value)) }
     {
         let Admitted {
-            server,
             serial,
             place,
             peer,
@@ -66,12 +115,11 @@ where
             connection,
             made: _,
         } = admitted;
-        let served = server.serve(serial, place, &peer, &local, &connection);
+        let served = self.serve(serial, place, &peer, &local, &connection);
         drop(connection);
         match served {
             Ok((running, found)) => {
                 let alive = Alive {
-                    server,
                     serial,
                     running,
                     local,
@@ -79,6 +127,7 @@ where
                 let kept = Snapshot::of(&peer);
                 drop(peer);
                 let started = Started {
+                    server: self,
                     alive,
                     peer: kept,
                     found,
@@ -94,20 +143,19 @@ where
     }
 
     /// The program of a connection is waited for in rounds, and its end is told.
-    fn finish(&self, alive: Alive<'a, H>) -> Over
-        ensures own { result.serial ≡ alive.entry.serial }
-        ensures ended { IsEndOfChild H.Job.killed H.Job.refused_wait H.Job.ended (job_of alive.entry.running)
-            (asked result.last.value) alive.entry.serial }
+    fn finish(&self, alive: Alive<H>) -> Over
+        ensures own { result.serial ≡ alive.serial }
+        ensures ended { IsEndOfChild H.Job.killed H.Job.refused_wait H.Job.ended (job_of alive.running)
+            (asked result.last.value) alive.serial }
     {
         let Alive {
-            server,
             serial,
             running,
             local,
         } = alive;
         let ended = wait_in_rounds(running);
         let is_retired = ended.is_err();
-        let mut agent = server.context.agent(serial, &local);
+        let mut agent = self.context.agent(serial, &local);
         agent.tell_end(ended);
         let over = Over::of(&agent, serial, is_retired);
         drop(agent);

@@ -2,8 +2,8 @@
 use Rattle.std.specs.Prelude.{ℤ, Bool, true, false, Option, None, Result, Ok, Err}
 use Rattle.server_parts.specs.declared.fault.ServerFailure.{ServerFailure}
 use Rattle.server_parts.specs.declared.fault.ServerFault.TheVariants as fault
-use Rattle.tcp_connections.specs.declared.admission.ServeEnd.{ServeEnd}
-use Rattle.tcp_connections.specs.declared.admission.ServeEnd.TheVariants.{AcceptFaults, Count, NoPlaces, OutOfMemory, Spent}
+use Rattle.tcp_connections.specs.declared.serving.ServeEnd.{ServeEnd}
+use Rattle.tcp_connections.specs.declared.serving.ServeEnd.TheVariants.{AcceptFaults, Count, NoPlaces, OutOfMemory, Spent}
 
 -- a server that has served all ends well, unless it has lost a connection; a fault of accepting has the last error's
 -- number, or that of what there was too little of, and no other fault has one

@@ -13,15 +13,15 @@ use tcp_service::Host;
 #[derive(Drop)]
 pub struct Finished(());
 
-// How the tool ends, by how its server did and the system's last error of accepting. The events of its site were a run.
+// How the tool ends, by how its server did and the system's last fault of accepting. The events of its site were a run.
 pub(crate) fn end_of<H: Host>(served: Closed<H>) -> Result<Finished, ServerFailure>
     requires servers { H.is_servers ≡ true }
     requires new { H.Callers.before ≡ 0 }
     ensures ran { HasRun served.yard }
-    ensures finished { OnOk result (told_of served.has_lost served.end served.errors.last ≡ Ok tt) }
-    ensures closed { IfErr result (λ failure. told_of served.has_lost served.end served.errors.last ≡ Err failure) }
+    ensures finished { OnOk result (told_of served.has_lost served.end served.faults.last ≡ Ok tt) }
+    ensures closed { IfErr result (λ failure. told_of served.has_lost served.end served.faults.last ≡ Err failure) }
 {
-    let (has_lost, end, error) = (served.has_lost, served.end, served.errors.last);
+    let (has_lost, end, error) = (served.has_lost, served.end, served.faults.last);
     drop(served);
     if has_lost {
         return Err(ServerFailure::from(ServerFault::LostConnection));

@@ -5,7 +5,7 @@ ghost use Rattle.std.specs.Prelude.{◌≡◌, ◌↔◌, ◌+◌, true, false, 
 ghost use Rattle.server_yard.specs.Yards.{HasRun, name_of, yard_books, yard_rules, yard_server};
 ghost use Rattle.shared_site.specs.Callers.{back_lacking, back_share, caller_share};
 ghost use Rattle.tcp_connections.specs.Admissions.{EndsAtCount, FailedToAccept, LetsInAtMost, suffices};
-ghost use Rattle.tcp_connections.specs.declared.admission.ServeEnd.TheVariants.{AcceptFaults, NoPlaces, Spent};
+ghost use Rattle.tcp_connections.specs.declared.serving.ServeEnd.TheVariants.{AcceptFaults, NoPlaces, Spent};
 ghost use Rattle.tcp_service.specs.Agents.{IsFoundFor};
 ghost use Rattle.tcp_service.specs.Lives.{MayStartEach};
 
@@ -20,7 +20,7 @@ use std::sync::Mutex;
 use std::sync::ledger::Blank;
 use std::thread::Threads;
 use std::time::Clock;
-use tcp_connections::{Accepted, Acceptor, Errors, ServeEnd, Supply, Workers};
+use tcp_connections::{Accepted, Acceptor, Faults, ServeEnd, Supply, Workers};
 use tcp_service::{AgentContext, Entrance, Host, Seen, Server, Service};
 
 /// So many callers of a site make the events of a server: one lets connections in, and the other makes the rest.
@@ -29,8 +29,8 @@ pub(crate) const CALLERS: u64 = 2;
 /// A server that has come to its end: nobody is let in any more and its threads have ended, both callers of its site
 /// are back and the site is closed. Each connection that is alive still is a retired one, unless one was lost. For want
 /// of places it ended only if its site has said that all are retired, and for want of numbers only if it has said that
-/// none is left. By faults of accepting it ended only if the last hundred answers of its acceptor were errors, or if there
-/// was too little for one connection.
+/// none is left. By faults of accepting it ended only if a hundred came since the last connection, or if there was too
+/// little for one connection.
 #[derive(Drop)]
 pub(crate) struct Closed<H: Host> {
     /// How it ended.
@@ -39,8 +39,8 @@ pub(crate) struct Closed<H: Host> {
     pub has_lost: bool,
     /// What its site was made of, with all that happened.
     pub yard: YardOf<H>,
-    /// The errors of accepting that came last in succession.
-    pub errors: Errors,
+    /// The faults of accepting that came last in succession.
+    pub faults: Faults,
     // what the system gave it
     supply: Supply,
     // what its site has said of all connections that would have followed
@@ -56,7 +56,7 @@ pub(crate) struct Closed<H: Host> {
     // how many it let in
     pub ghost by_count: { EndsAtCount end H.Callers.admissions (caller_share admitter.value) },
     pub ghost most: { LetsInAtMost end H.Callers.admissions (caller_share admitter.value) },
-    pub ghost by_faults: { end ≡ AcceptFaults → ∥ FailedToAccept (suffices supply) errors.count ∥₁ },
+    pub ghost by_faults: { end ≡ AcceptFaults → ∥ FailedToAccept (suffices supply) faults.count ∥₁ },
     pub ghost by_places: { end ≡ NoPlaces → IsTrue (is_some seen.retired) },
     pub ghost by_numbers: { end ≡ Spent → IsTrue (is_some seen.spent) },
     // its events are a run of a server
@@ -127,12 +127,11 @@ where
         service,
     };
     let (limits, supply) = (service.limits, service.supply);
-    let entrance = Entrance {
-        server: &server,
+    let entrance = Entrance::<H> {
         admitter,
         seen: Seen::new(),
     };
-    let (end, entrance, errors) = Workers::<H::Runtime, Server<'_, H>, A>::serve_through(
+    let (end, entrance, faults) = Workers::<H::Runtime, Server<'_, H>, A>::serve_through(
         rt,
         alloc,
         acceptor,
@@ -143,36 +142,31 @@ where
         supply,
         &service.reserve,
     );
-    let Entrance {
-        server: _,
-        admitter,
-        seen,
-    } = entrance;
     let teller = teller.into_inner();
-    end_of(close(end, errors, supply, seen, site, back, admitter, teller))
+    end_of(close(end, faults, supply, site, back, entrance, teller))
 }
 
 // Closes a site with both of its callers, and looks whether each connection that is alive still is retired.
 fn close<H: Host>(
     end: ServeEnd,
-    errors: Errors,
+    faults: Faults,
     supply: Supply,
-    seen: Seen<H::Places>,
     site: Site<H>,
     back: BackCallers<H::Callers>,
-    admitter: CallerOf<H>,
+    entrance: Entrance<H>,
     teller: CallerOf<H>,
 ) -> Closed<H>
-    requires faults { end ≡ AcceptFaults → FailedToAccept (suffices supply) errors.count }
-    requires places { end ≡ NoPlaces → IsTrue (is_some seen.retired) }
-    requires spent { end ≡ Spent → IsTrue (is_some seen.spent) }
-    requires count { EndsAtCount end H.Callers.admissions (caller_share admitter) }
-    requires most { LetsInAtMost end H.Callers.admissions (caller_share admitter) }
+    requires faults { end ≡ AcceptFaults → FailedToAccept (suffices supply) faults.count }
+    requires places { end ≡ NoPlaces → IsTrue (is_some entrance.seen.retired) }
+    requires spent { end ≡ Spent → IsTrue (is_some entrance.seen.spent) }
+    requires count { EndsAtCount end H.Callers.admissions (caller_share entrance.admitter) }
+    requires most { LetsInAtMost end H.Callers.admissions (caller_share entrance.admitter) }
     requires all { H.Callers.all ≡ H.Callers.parts }
     requires both { (back_lacking back ≡ 2) × (back_share back ≡ 0) }
     ensures end { result.end ≡ end }
-    ensures errors { result.errors ≡ errors }
+    ensures faults { result.faults ≡ faults }
 {
+    let Entrance { admitter, seen } = entrance;
     let mut back = back;
     let (admitter_then, teller_then) = (Snapshot::of(&admitter), Snapshot::of(&teller));
     back.add(admitter);
@@ -185,7 +179,7 @@ fn close<H: Host>(
         end,
         has_lost,
         yard,
-        errors,
+        faults,
         supply,
         seen,
         admitter: admitter_then,

@@ -9,8 +9,8 @@ pub returns-in-Ok-clause-child : goal.returns-in-Ok-clause-child
 returns-in-Ok-clause-child g c =
     let job = g.H.Job.Job in
     let it = c.args.admitted in
-    let finds = IsFoundFor g.H.Places.Assumptions.met (g.H.Rules.Rules.gives it.server.now.context.rules.now) g.H.Handle.RulesHandle.opened it.serial in
+    let finds = IsFoundFor g.H.Places.Assumptions.met (g.H.Rules.Rules.gives c.args.self.now.context.rules.now) g.H.Handle.RulesHandle.opened it.serial in
     let ran = c.in-Ok in
     rw c.go_on.ensures (own_is_decided (kept_opening g.H.File.RulesFile.bytes ran.found) finds g.H.File.RulesFile.honest g.H.File.RulesFile.sound
-    it.peer it.local it.server.now.context.plan.now (job.program (job_of ran.running)) (job.environment (job_of ran.running))
+    it.peer it.local c.args.self.now.context.plan.now (job.program (job_of ran.running)) (job.environment (job_of ran.running))
     ran.ensures.child)

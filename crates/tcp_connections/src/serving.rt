@@ -1,4 +1,4 @@
-//! Where connections are let in, and what serves them.
+//! What lets connections in and serves them.
 ghost use Rattle.std.specs.Prelude.{◌≡◌, ℕ, Bool, Option, false, IsTrue, IfOk};
 ghost use Rattle.tcp_connections.specs.Admissions.{LetsIn, OnSpent};
 
@@ -26,49 +26,13 @@ pub enum Refused {
     Spent,
 }
 
-/// Who is let in of those who come.
-pub trait Admission {
+/// Lets connections in, and serves them. A connection is a value that each call takes, and gives on to the next.
+pub trait Serving {
     /// A connection that came.
     type Came: Send + Drop;
 
-    /// A connection that was let in.
-    type Work;
-
-    /// Whether what was let in is the connection that came.
-    ghost is_its: { Self.Came → Self.Work → Type 0 };
-
-    /// How many are let in at most, if there is such a number.
-    ghost count: { Option ℕ };
-
-    /// How many were let in.
-    ghost let_in: { Self → ℕ };
-
-    /// All places were seen retired.
-    ghost all_retired: { Self → Bool };
-
-    /// The last serial number, or the last number of an event, was seen given.
-    ghost is_spent: { Self → Bool };
-
-    /// Lets a connection in.
-    ///
-    /// # Errors
-    /// It was refused, and is closed.
-    fn admit(&mut self, came: Self::Came) -> Result<Self::Work, Refused>
-        ensures its { IfOk result (is_its came) }
-        ensures came { LetsIn result (let_in self.old) (let_in self.new) }
-        ensures spent { OnSpent result (IsTrue (is_spent self.new)) };
-
-    /// Whether a place is free, or may become free: not all are retired.
-    fn has_places(&mut self) -> bool
-        ensures retired { result ≡ false → IsTrue (all_retired self.new) }
-        ensures nobody { let_in self.new ≡ let_in self.old };
-}
-
-/// Serves the connections that its entrance lets in. A connection is a value that each call takes, and gives on to the
-/// next.
-pub trait Serving {
-    /// What lets them in.
-    type Entrance: Admission<Work = Self::Work> + Send;
+    /// What lets connections in, one after another.
+    type Entrance: Send + Drop;
 
     /// A connection that was let in.
     type Work;
@@ -79,8 +43,37 @@ pub trait Serving {
     /// Evidence that a connection is over: only its end makes one.
     type Over: Send + Drop;
 
+    /// Whether what was let in is the connection that came.
+    ghost is_its: { Self → Self.Came → Self.Work → Type 0 };
+
+    /// How many are let in at most, if there is such a number.
+    ghost count: { Option ℕ };
+
+    /// How many an entrance let in.
+    ghost let_in: { Self.Entrance → ℕ };
+
+    /// It saw that all places are retired.
+    ghost all_retired: { Self.Entrance → Bool };
+
+    /// It saw that the last serial number was given, or the last number of an event.
+    ghost is_spent: { Self.Entrance → Bool };
+
     /// Whether a connection that is over was retired.
     ghost retired: { Self.Over → Bool };
+
+    /// Lets a connection in.
+    ///
+    /// # Errors
+    /// It was refused, and is closed.
+    fn admit(&self, entrance: &mut Self::Entrance, came: Self::Came) -> Result<Self::Work, Refused>
+        ensures its { IfOk result (is_its self.now came) }
+        ensures came { LetsIn result (let_in entrance.old) (let_in entrance.new) }
+        ensures spent { OnSpent result (IsTrue (is_spent entrance.new)) };
+
+    /// Whether a place is free, or may become free: not all are retired.
+    fn has_places(&self, entrance: &mut Self::Entrance) -> bool
+        ensures retired { result ≡ false → IsTrue (all_retired entrance.new) }
+        ensures nobody { let_in entrance.new ≡ let_in entrance.old };
 
     /// Serves a connection up to the start of its program.
     ///
