@@ -125,7 +125,7 @@ ROUND = 100_000
 LONGEST_START = 5
 
 
-@needs_proved(8)
+@needs_proved(9)
 def lowest_limits(suite):
     """The lowest limits that the cookbook tells, and an eighth more: so many clients are served at once. With a sixteenth less the server ends and
     says so, or goes on; with much less it has no memory for its words, or the loader none for it."""

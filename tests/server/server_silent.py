@@ -40,6 +40,19 @@ def small(server, source, window=8192, segment=1400):
     return client
 
 
+def end_of(client):
+    """What a client still gets, and whether its end is a reset."""
+    got = b""
+    while True:
+        try:
+            piece = client.recv(65536)
+        except ConnectionResetError:
+            return got, True
+        if not piece:
+            return got, False
+        got += piece
+
+
 def third_client(suite, name, options, soonest, latest):
     """Two silent clients have both places, and a third one comes: when it is served, what is logged of the two, and that no time was used."""
     with suite.start(["-v", "-c", "2"] + options + server_runs.QUIET, PROGRAM) as server:
@@ -55,14 +68,18 @@ def third_client(suite, name, options, soonest, latest):
         server.idle()
         used = server.processor_time()
         # what the system still has of a connection that was shut, and then its end
-        ended = [len(read_all(client)) > 0 for client in silent]
+        ended = [end_of(client) for client in silent]
         for client in silent:
             client.close()
         ends = [line for line in server.lines() if line.startswith("end ")]
         found = [
             (name + ": the third client", answer, b"hi"), (name + ": its time", soonest <= waited <= latest or waited, True),
-            (name + ": the ends of the silent ones", ended, [True, True]), (name + ": time of a processor", used < 2 or used, True),
+            (name + ": what the silent ones had", [len(got) > 0 for got, _ in ended], [True, True]),
+            (name + ": time of a processor", used < 2 or used, True),
         ]
+        # where something is lost a client is told so
+        if soonest:
+            found.append((name + ": the ends of the silent ones", [is_reset for _, is_reset in ended], [True, True]))
         if not suite.original:
             found.append((name + ": the end of each program", sorted(ends), [log_forms.end(1, 5), log_forms.end(2, 5), log_forms.end(3)]))
             found.append((name + ": nothing is left", server.live(), 0))
@@ -160,7 +177,8 @@ def too_slow_in_all(suite):
                 got += len(piece)
             time.sleep(5 / fast)
         took, taken = (time.monotonic() - began) * fast, got
-        got += len(read_all(client))
+        rest, is_reset = end_of(client)
+        got += len(rest)
         with open(path) as file:
             written = int(file.read())
         server.idle()
@@ -169,6 +187,7 @@ def too_slow_in_all(suite):
             (name + ": the bound in all", ALL - 120 <= took <= ALL + SLACK * fast or took, True),
             (name + ": more was taken than is kept at a time", taken > 3 * PIECE or taken, True),
             (name + ": the rest is lost, but for what the system has", got < written and got - taken <= HELD or (taken, got, written), True),
+            (name + ": its end is a reset", is_reset, True),
             (name + ": the end", [line for line in server.lines() if line.startswith("end ")], [log_forms.end(1)]),
         ], server
 

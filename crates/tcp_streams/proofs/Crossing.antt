@@ -40,7 +40,10 @@ module _ (W : RattleType) (w : IsSend W) where
         tap_send,
         (
           search (sendable, crosses) depth 20,
-          (search (sendable, crosses) depth 20, (search (sendable, crosses) depth 20, tt)),
+          (
+            search (sendable, crosses) depth 20,
+            (search (sendable, crosses) depth 20, (search (sendable, crosses) depth 20, tt)),
+          ),
         ),
       ),
     ),

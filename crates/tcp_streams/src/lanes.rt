@@ -66,8 +66,9 @@ pub(crate) struct Lane<W> {
     // room for a read
     room: Vec<u8>,
     kept: Vec<u8>,
-    // whether its reader may give more
+    // whether its reader may give more, and whether something that it gave is lost
     is_open: bool,
+    is_cut: bool,
     ghost has_room: { 0 < length room.items },
 }
 
@@ -87,6 +88,7 @@ impl<W: Write + Drop> Lane<W> {
             room,
             kept: Vec::new(alloc),
             is_open: true,
+            is_cut: false,
         })
     }
 
@@ -95,8 +97,13 @@ impl<W: Write + Drop> Lane<W> {
         self.kept.len()
     }
 
+    /// Whether something that its reader gave is lost: the writer has failed, or there was no memory.
+    pub fn is_cut(&self) -> bool {
+        self.is_cut
+    }
+
     /// Passes a piece on, or writes what is kept. It answers whether there may be more: `false` once the reader has
-    /// ended or failed and all was written, or the writer has failed.
+    /// ended or failed and all was written, or something is lost.
     pub fn go_on<F: Read + Drop, T: Write + Drop>(&mut self, from: F, to: T) -> bool {
         let (mut from, mut to) = (from, to);
         if !self.kept.is_empty() {
@@ -130,8 +137,8 @@ impl<W: Write + Drop> Lane<W> {
         match end.why {
             Why::ReadsOver => {}
             Why::ReadFault if reader.is_dry => {}
-            Why::WriteFault | Why::ZeroWrite => self.end(),
-            _ => self.is_open = false,
+            Why::End | Why::ReadFault => self.is_open = false,
+            Why::WriteFault | Why::ZeroWrite | Why::Failed | Why::OutOfMemory => self.cut(),
         }
     }
 
@@ -141,13 +148,14 @@ impl<W: Write + Drop> Lane<W> {
             Ok(count) if 0 < count && count < self.kept.len() => drop(self.kept.drain(..count)),
             Ok(count) if 0 < count => self.kept = Vec::new(self.alloc),
             Err(error) if may_go_on(&error) => {}
-            _ => self.end(),
+            _ => self.cut(),
         }
     }
 
-    // Nothing more passes.
-    fn end(&mut self) {
+    // Nothing more passes, and what is kept is lost.
+    fn cut(&mut self) {
         self.is_open = false;
+        self.is_cut = true;
         self.kept = Vec::new(self.alloc);
     }
 }

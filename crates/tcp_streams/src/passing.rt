@@ -8,7 +8,7 @@ use crate::lanes::{Lane, WayTap};
 use crate::wrappers::Wrapper;
 use byte_streams::{LineWrapper, Patient, Way};
 use child_jobs::Job;
-use libc::net::{POLLERR, POLLHUP, POLLIN, POLLOUT};
+use libc::net::{_SS_SIZE, POLLERR, POLLHUP, POLLIN, POLLOUT};
 use libc::types::pollfd;
 use server_words::{LineWrapperName, Mode};
 use std::alloc::Global;
@@ -27,13 +27,11 @@ const IDLE: u64 = 60;
 /// And for so many it may take it in all.
 const ALL: u64 = 600;
 
-/// While something is kept for a client, it is tried again after so many milliseconds.
+/// While something is kept for a client, it is tried again after so many milliseconds; and once a program writes no more,
+/// but its input is open, it is looked after so often whether it is over.
 const LOOK: i32 = 1_000;
 
-/// Once a program writes no more, but its input is open, it is looked after so many milliseconds whether it is over; and
-/// while bytes pass, each time that so many pieces have.
-const PAUSE: i32 = 100;
-
+/// While bytes pass, that is looked after each time that so many pieces have.
 const TURNS: u32 = 64;
 
 /// So many milliseconds pass where the system doesn't tell what is ready.
@@ -44,6 +42,9 @@ const SHORT_PAUSE: u64 = 5;
 const PIECES: u32 = 128;
 
 const PIECE: usize = 512;
+
+/// The length of an IPv4 address for the system, in bytes.
+const ADDRESS: u32 = 16;
 
 /// How the bytes of connections pass.
 #[derive(Clone, Copy)]
@@ -180,7 +181,7 @@ impl<'a, R: Wait + Clock, E: Write + Copy + Drop> Passage<'a, R, E> {
         }
         let took = self.downward.kept() != kept;
         if self.keeps() && self.is_given_up(took) {
-            self.output = None;
+            self.cut_off();
         }
         ready.is_quiet
     }
@@ -202,10 +203,10 @@ impl<'a, R: Wait + Clock, E: Write + Copy + Drop> Passage<'a, R, E> {
             Some(output) if !keeps => Some(output.as_raw_fd()),
             _ => None,
         };
-        let limit = match &self.output {
-            Some(_) if keeps => LOOK,
-            Some(_) => -1,
-            None => PAUSE,
+        let limit = if self.output.is_none() || keeps {
+            LOOK
+        } else {
+            -1
         };
         let room = if has_kept { POLLOUT } else { 0 };
         let mut all = [client, watched(input, room), watched(output, POLLIN)];
@@ -239,9 +240,19 @@ impl<'a, R: Wait + Clock, E: Write + Copy + Drop> Passage<'a, R, E> {
             Some(output) => self.downward.go_on(output, &self.client),
             None => true,
         };
-        if !goes_on {
+        if self.downward.is_cut() {
+            self.cut_off();
+        } else if !goes_on {
             self.output = None;
         }
+    }
+
+    // Ends the connection of a client that does not get all that its program wrote. To connect to nobody dissolves it
+    // (connect(2)): the client is told of a reset, so that it can't take what it has for all.
+    fn cut_off(&mut self) {
+        self.output = None;
+        let nobody = [0u8; _SS_SIZE];
+        let _ = unsafe { libc::net::connect(self.client.as_raw_fd(), &nobody, ADDRESS) };
     }
 
     /// Drops what nobody read of the client, as far as it is there.

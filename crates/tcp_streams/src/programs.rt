@@ -3,7 +3,7 @@ ghost use Rattle.std.specs.Prelude.{◌≡◌, ⊤, IfErr, IfOk, true};
 ghost use Rattle.tcp_streams.specs.Asked.{is_pumped, passing_of, pumps};
 
 use crate::passing::{Passage, Passing};
-use crate::sockets::Connection;
+use crate::sockets::{Connection, TOO_MANY_FILES, TOO_MANY_FILES_AT_ALL};
 use child_jobs::{Environment, Exit, Job, Launcher, NotStarted, Program, StartFault, WaitFault};
 use server_words::Mode;
 use std::alloc::Global;
@@ -29,7 +29,7 @@ const WAITS: u32 = 66;
 const LONGER: u32 = 8;
 
 /// Starts programs as `OsLauncher` does. Where the system has no process for one, the one in reserve is given back. Then,
-/// and where it has no descriptor, since fewer are allowed by now, it waits for some time for the end of another.
+/// and where it has no descriptor for one by now, it waits for some time for the end of another.
 ///
 /// A connection that is handed over is the standard input and output of its program, one socket twice, and this process
 /// holds it no more. Else both are pipes, and the job has the connection: `wait` passes its bytes.
@@ -78,11 +78,21 @@ impl<'a, R: Processes + Files + Wait + Clock, E: Write + Copy + Drop> ProgramSta
     {
         for waits in 0..WAITS {
             match self.start_once(alloc, program, environment, stream) {
-                Err(refused) if refused.error == Some(libc::EAGAIN) => {
+                Err(
+                    NotStarted {
+                        error: Some(libc::EAGAIN),
+                        ..
+                    },
+                ) => {
                     self.reserve.give_back(self.rt);
                     self.wait_for_another(waits);
                 }
-                Err(refused) if refused.error == Some(libc::EMFILE) => self.wait_for_another(waits),
+                Err(
+                    NotStarted {
+                        error: Some(TOO_MANY_FILES | TOO_MANY_FILES_AT_ALL),
+                        ..
+                    },
+                ) => self.wait_for_another(waits),
                 outcome => return outcome,
             }
         }

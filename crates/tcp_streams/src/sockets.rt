@@ -10,9 +10,9 @@ use std::sync::{Mutex, Wait};
 use tcp_connections::{AcceptError, Accepted, Acceptor};
 
 /// The system's faults of a process, and of the whole system, that has too many open files.
-const TOO_MANY_FILES: i32 = 24;
+pub(crate) const TOO_MANY_FILES: i32 = 24;
 
-const TOO_MANY_FILES_AT_ALL: i32 = 23;
+pub(crate) const TOO_MANY_FILES_AT_ALL: i32 = 23;
 
 /// The system's fault of a socket for which it has no memory.
 const NO_BUFFERS: i32 = 105;
