@@ -135,7 +135,7 @@ def scratch_file_held_for_good(folder):
     """Another process has the scratch file: after a minute the wait is given up, and nothing has changed."""
     with claimed(folder.path(SCRATCH)):
         code, told, seconds = folder.install(words=("-v", "rules", SCRATCH))
-    folder.expect("a scratch file that is not given up", (code, told), (111, WAITING + FRESH + "tcprules: cause: .: Resource temporarily unavailable\n"))
+    folder.expect("a scratch file that is not given up", (code, told), (111, WAITING + FRESH + "tcprules: cause: %s: Resource temporarily unavailable\n" % SCRATCH))
     folder.expect("a minute", GIVEN_UP <= seconds < GIVEN_UP + SLACK, True)
     folder.expect("nothing has changed", (folder.rules() == folder.old, sorted(os.listdir(folder.place))), (True, ["rules", SCRATCH]))
 

@@ -10,9 +10,9 @@ use std::sync::atomic::{AtomicU32, Ordering};
 /// What a failed call was about.
 #[derive(Clone, Copy)]
 pub enum FailedOn {
-    /// The folder itself, or the process that has its scratch file.
+    /// The folder itself.
     Folder,
-    /// The name that the call was given, or the file that stands there.
+    /// The name that the call was given, the file that stands there, or the process that has it.
     Name,
     /// The name onto which one was to be moved.
     Onto,

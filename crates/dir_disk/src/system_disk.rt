@@ -157,12 +157,7 @@ impl<R: Files<File = File> + Drop, W: Waits + Drop> SystemDisk<R, W> {
         if taken && self.made.is_none() && self.waits.wait() {
             return None;
         }
-        let on = if taken {
-            FailedOn::Folder
-        } else {
-            FailedOn::Name
-        };
-        Some(self.notes.note(on, outcome))
+        Some(self.notes.note(FailedOn::Name, outcome))
     }
 
     // Takes away what stands under a name; after a file was made, that file alone. Somebody may have put another one

@@ -11,9 +11,9 @@ pub enum CauseOf {
     Input,
     /// That standard output takes bytes.
     Output,
-    /// The folder of the rules file, or who has its scratch file.
+    /// The folder of the rules file.
     Folder,
-    /// The scratch file.
+    /// The scratch file, or who has it.
     Scratch,
     /// The rules file.
     Rules,
