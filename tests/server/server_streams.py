@@ -135,8 +135,8 @@ def output_ends_first(suite):
         text = bytes(range(256)) * 8192
         with server.connect() as client:
             suite.expect("before the output's end", client.recv(3), b"hi\n")
-            # (the server looks meanwhile whether the program is over)
-            time.sleep(0.3)
+            # (the server looks meanwhile whether the program is over, as it does each second)
+            time.sleep(1.3)
             send(client, text)
             suite.expect("after the output's end", read_all(client), b"")
         server.idle()
