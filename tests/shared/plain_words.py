@@ -205,14 +205,10 @@ def find(file, key):
         if found != number:
             continue
         key_length, length = numbers_at(file, position)
-        if key_length != len(key):
-            continue
-        if position + 8 + key_length > len(file):
+        if position + 8 + key_length + length > len(file):
             raise Damaged
         if file[position + 8:position + 8 + key_length] != key:
             continue
-        if position + 8 + key_length + length > len(file):
-            raise Damaged
         return file[position + 8 + key_length:position + 8 + key_length + length]
     return None
 

@@ -5,7 +5,7 @@ use Rattle.std.proofs.lemmas.Slice.Eq.{bytes_eq-Decides}
 use Rattle.rule_lookup.specs.Lookups.Finding.{Has}
 use Rattle.cdb_files.specs.Format.{Pair, hash_of, number_at}
 use Rattle.cdb_files.specs.Slots.{is_empty}
-use Rattle.cdb_files.specs.Reading.{has_other_key, is_passed, lies_in, value_at}
+use Rattle.cdb_files.specs.Reading.{has_other_key, holds_record, is_passed, lies_in, value_at}
 use Rattle.cdb_files.proofs.Records.{IsReadAt, IsSlotOf}
 
 -- the same bytes are equal
@@ -16,31 +16,37 @@ bytes_eq-same xs ys same = (bytes_eq-Decides xs ys).1 same
 pub bytes_eq-other : (xs ys : List ℕ) → xs ≢ ys → bytes_eq xs ys ≡ false
 bytes_eq-other xs ys other = false_from_ne_true (bytes_eq xs ys) (λ same. other ((bytes_eq-Decides xs ys).0 same))
 
--- a record with the key is not seen to have another
+-- a record that is read lies in the file
+holds_record-read : (file : List ℕ) (position : ℕ) (pair : Pair) → IsReadAt file position pair → holds_record file position ≡ true
+holds_record-read file position pair read =
+    let in_front : lies_in file position 8 ≡ true = le-leb (position + 8) (length file) (omega (arith, read.inside)) in
+    let all : lies_in file (position + 8 + number_at file position) (number_at file (position + 4)) ≡ true =
+    le-leb (position + 8 + number_at file position + number_at file (position + 4)) (length file) (omega (arith, read.inside, read.key_length, read.value_length)) in
+    rw (in_front, all) refl
+
+-- a record with the key does not have another
 has_other_key-same : (file key : List ℕ) (position : ℕ) (pair : Pair) → IsReadAt file position pair → pair.key ≡ key → has_other_key file key position ≡ false
 has_other_key-same file key position pair read same =
-    let in_front : lies_in file position 8 ≡ true = le-leb (position + 8) (length file) (omega (arith, read.inside)) in
+    let held = holds_record-read file position pair read in
     let long : (number_at file position == length key) ≡ true = eq-eqb (number_at file position) (length key) (read.key_length ∙ ap length same) in
-    let inside : lies_in file (position + 8) (length key) ≡ true = le-leb (position + 8 + length key) (length file) (omega (arith, read.inside, ap length same)) in
     let text : bytes_eq (take (length key) (drop (position + 8) file)) key ≡ true =
     bytes_eq-same (take (length key) (drop (position + 8) file)) key (ap (λ k. take (length k) (drop (position + 8) file)) (sym same) ∙ read.key ∙ same) in
-    rw (in_front, long, inside, text) refl
+    rw (held, long, text) refl
 
--- a record with another key is seen to have it
+-- a record with another key has it
 has_other_key-other : (file key : List ℕ) (position : ℕ) (pair : Pair) → IsReadAt file position pair → pair.key ≢ key → has_other_key file key position ≡ true
 has_other_key-other file key position pair read other =
-    let in_front : lies_in file position 8 ≡ true = le-leb (position + 8) (length file) (omega (arith, read.inside)) in
+    let held = holds_record-read file position pair read in
     elim (cases_eq (length pair.key) (length key)) [
       | inl as_long ↦
           let long : (number_at file position == length key) ≡ true = eq-eqb (number_at file position) (length key) (read.key_length ∙ as_long) in
-          let inside : lies_in file (position + 8) (length key) ≡ true = le-leb (position + 8 + length key) (length file) (omega (arith, read.inside)) in
           let bytes : take (length key) (drop (position + 8) file) ≡ pair.key = ap (λ n. take n (drop (position + 8) file)) (sym as_long) ∙ read.key in
           let text : bytes_eq (take (length key) (drop (position + 8) file)) key ≡ false =
           bytes_eq-other (take (length key) (drop (position + 8) file)) key (λ same. other (sym bytes ∙ same)) in
-          rw (in_front, long, inside, text) refl
+          rw (held, long, text) refl
       | inr not_as_long ↦
           let long : (number_at file position == length key) ≡ false = ne_eqb (number_at file position) (length key) (λ same. not_as_long (sym read.key_length ∙ same)) in
-          rw (in_front, long) refl
+          rw (held, long) refl
     ]
 
 -- a filled slot is not empty
@@ -66,11 +72,9 @@ is_passed-same file key slot pair of same =
 -- and there its value is found
 pub value_at-same : (file key : List ℕ) (position : ℕ) (pair : Pair) → IsReadAt file position pair → pair.key ≡ key → value_at file key position ≡ Has pair.value
 value_at-same file key position pair read same =
-    let in_front : lies_in file position 8 ≡ true = le-leb (position + 8) (length file) (omega (arith, read.inside)) in
-    let inside : lies_in file (position + 8 + length key) (number_at file (position + 4)) ≡ true =
-    le-leb (position + 8 + length key + number_at file (position + 4)) (length file) (omega (arith, read.inside, read.value_length, ap length same)) in
+    let held = holds_record-read file position pair read in
     let bytes : take (number_at file (position + 4)) (drop (position + 8 + length key) file) ≡ pair.value =
     ap (λ n. take n (drop (position + 8 + length key) file)) read.value_length
     ∙ ap (λ k. take (length pair.value) (drop (position + 8 + length k) file)) (sym same)
     ∙ read.value in
-    rw (in_front, inside, bytes) refl
+    rw (held, bytes) refl

@@ -20,7 +20,7 @@ use Rattle.cdb_files.specs.declared.window.Window.{Window}
 abbrev pub bytes_at : List ℕ → ℕ → ℕ → List ℕ
 bytes_at file position len = take len (drop position file)
 
--- what the record at a position has for a key: nothing, if it is seen to have another key
+-- what the record at a position has for a key: nothing, if it has another key
 abbrev pub record_at : List ℕ → List ℕ → ℕ → Finding
 record_at file key position = if has_other_key file key position then Absent else value_at file key position
 

@@ -16,25 +16,29 @@ key_length file position = number_at file position
 abbrev pub value_length : List ℕ → ℕ → ℕ
 value_length file position = number_at file (position + 4)
 
--- where the key of the record at a position stands, other bytes can be read
-abbrev pub has_other_bytes : List ℕ → List ℕ → ℕ → Bool
-has_other_bytes file key position =
-    lies_in file (position + 8) (length key) && not (bytes_eq (take (length key) (drop (position + 8) file)) key)
+-- the record at a position lies in the file: its lengths, its key and its value
+abbrev pub holds_record : List ℕ → ℕ → Bool
+holds_record file position =
+    lies_in file position 8 && lies_in file (position + 8 + key_length file position) (value_length file position)
 
--- the record at a position can be read, and is seen to have another key
+-- where the key of the record at a position would stand, there are other bytes
+abbrev pub has_other_bytes : List ℕ → List ℕ → ℕ → Bool
+has_other_bytes file key position = not (bytes_eq (take (length key) (drop (position + 8) file)) key)
+
+-- the record at a position lies in the file, and has another key
 abbrev pub has_other_key : List ℕ → List ℕ → ℕ → Bool
 has_other_key file key position =
-    lies_in file position 8 && (not (key_length file position == length key) || has_other_bytes file key position)
+    holds_record file position && (not (key_length file position == length key) || has_other_bytes file key position)
 
 -- a slot with another hash, or of a record with another key, is passed
 abbrev pub is_passed : List ℕ → List ℕ → ℕ × ℕ → Bool
 is_passed file key slot =
     not (is_empty slot) && (not (slot.0 == hash_of key) || has_other_key file key slot.1)
 
--- the value of the record at a position, if its lengths, its key and its value lie in the file
+-- the value of the record at a position, which has this key, if it lies in the file
 abbrev pub value_at : List ℕ → List ℕ → ℕ → Finding
 value_at file key position =
-    if lies_in file position 8 && lies_in file (position + 8 + length key) (value_length file position)
+    if holds_record file position
     then Has (take (value_length file position) (drop (position + 8 + length key) file))
     else Broken
 

@@ -194,7 +194,7 @@ impl<F: RulesFile> CdbFile<F> {
         Ok(window.part(position, key.len()) == key)
     }
 
-    /// The record at a position, or `None` where it is seen to have another key.
+    /// The record at a position, or `None` where it has another key. One that does not lie in the file is `Short`.
     fn record_at(
         &self,
         alloc: Global,
@@ -213,17 +213,14 @@ impl<F: RulesFile> CdbFile<F> {
             return Err(FindFault::Short);
         }
         let (key_len, value_len) = self.windowed_numbers(alloc, window, record, end)?;
+        if record + 8 + u64::from(key_len) + u64::from(value_len) > end {
+            return Err(FindFault::Short);
+        }
         if key_len as usize != key.len() {
             return Ok(None);
         }
-        if record + 8 + u64::from(key_len) > end {
-            return Err(FindFault::Short);
-        }
         if !self.has_key_at(alloc, window, record + 8, key, end)? {
             return Ok(None);
-        }
-        if record + 8 + u64::from(key_len) + u64::from(value_len) > end {
-            return Err(FindFault::Short);
         }
         Ok(Some(Stored {
             position,
