@@ -11,25 +11,37 @@ with `-m`. Without it the only limit for an address is that of `-c`, which the l
 The script also has the events that no line tells. The rules were opened before a verdict, and the program was started before its end. The end of
 a denied connection is a status line alone. If it may belong to several connections, the script takes one with which the other lines fit.
 
+The log may end anywhere, as that of a server that still runs: a last line without its line feed is left out, and so is a status line of a connection
+whose own line would come next.
+
 Lines that do not fit are named on standard error, and the exit code is then 1. These are a number of connections that the events before don't
-give, an event without its status, and a line of no known form. If the log can't be read or the script can't be written, the exit code is 111.
+give, an event without its status, and a line of no known form. The log's own numbers count from there on, so that what is missing is named once. If
+the log can't be read or the script can't be written, the exit code is 111.
 """
+import bisect
+import collections
 import os
 import re
 import signal
 import sys
 
 NAME = b"tcpserver: "
-# what a server says of its rules at the start, before it lets anybody in
-NO_NAMES = b"tcpserver: rules by name, and no names"
 # (the server's numbers have 64 bits; a longer one was written by somebody else)
 DIGITS = rb"\d{1,19}"
 NUMBER = rb"(%s)" % DIGITS
-ADDRESS = rb"(\d{1,3}\.\d{1,3}\.\d{1,3}\.\d{1,3})"
+ANY_ADDRESS = rb"\d{1,3}\.\d{1,3}\.\d{1,3}\.\d{1,3}"
+ADDRESS = rb"(%s)" % ANY_ADDRESS
 # (older versions printed `no thread` and `no pipe ends`)
 CAUSES = rb"(banner fault|directory fault|rules read fault|rules damaged|out of memory|no thread)"
 FAULTS = rb"(not found|refused|failed|out of memory|no pipe ends)"
 VERDICT = rb"(ok|deny) %s [^ :]*:%s:%s [^ :]*:%s:[^ :]*:%s" % (NUMBER, ADDRESS, DIGITS, ADDRESS, DIGITS)
+# lines without an event: the cause of the line before, where the server listens, and a program's process; what a server says of its rules before it
+# lets anybody in; and why one was not started, with what to do about it
+BESIDE = (
+    rb"cause: .*|listening on %s:%s|runs %s process %s|rules by name, and no names|cannot listen|cannot wait for programs|(?:device|read|write) fault"
+    rb"|host table line %s|bad wrappers|usage: .*|unknown option -.*|option -.* (?:needs a value|is not in this profile|has a bad number)|hint: .*"
+    % (ANY_ADDRESS, DIGITS, DIGITS, DIGITS, DIGITS)
+)
 FORMS = [
     ("status", re.compile(rb"status: %s/%s" % (NUMBER, NUMBER))),
     ("pid", re.compile(rb"pid %s from %s" % (NUMBER, ADDRESS))),
@@ -40,17 +52,15 @@ FORMS = [
     ("full", re.compile(rb"drop %s address full" % ADDRESS)),
     ("drop", re.compile(rb"drop %s %s" % (NUMBER, CAUSES))),
     ("start", re.compile(rb"start %s %s" % (NUMBER, FAULTS))),
-    ("memory", re.compile(rb"out of memory")),
-    ("ending", re.compile(rb"accept fault|no places left|lost connection")),
+    ("message", re.compile(rb"out of memory|accept fault|no places left|lost connection")),
+    ("beside", re.compile(BESIDE, re.S)),
 ]
-# lines without an event: the cause of the line before; where the server listens, and a program's process, as in later versions
-BESIDE = re.compile(rb"cause: .*|listening on %s:%s|runs %s process %s" % (ADDRESS, DIGITS, DIGITS, DIGITS), re.S)
 # what is recorded of a client or a program may look like a line of the server
 RECORDED = re.compile(rb"\d+ [<>] ")
 # the most that `rulesim` takes, as the server does for `-m`
 MOST = 10000
-# the last line of these events is a status
-WITH_STATUS = ("pid", "end", "retired", "drop", "start")
+# above all serial numbers
+ALL = 2 ** 64
 
 
 class Line:
@@ -63,29 +73,87 @@ class Line:
 
 
 class Connection:
-    """A connection that was let in: its address, whether its program is known to have been started, and its place in the list once denied."""
+    """A connection that was let in: its address, and whether its program is known to have been started."""
 
     def __init__(self, address):
         self.address = address
         self.started = False
-        self.denied = None
+
+
+class Endings:
+    """The ends of denied connections. A status line shows that one of them has ended, and not which one. Verdicts and ends are known by their places in
+    the list of events, and an end may be of any connection that was denied before it."""
+
+    def __init__(self):
+        # the places of the verdicts that have no end yet, by serial, and the serials by address: both in the order of the verdicts
+        self.verdicts = {}
+        self.serials = {}
+        # the places of the ends; how many are not given to a connection; and of each the first from there on that is not
+        self.ends = []
+        self.open = 0
+        self.following = [0]
+
+    def deny(self, serial, address, place):
+        self.forget(serial, address)
+        self.verdicts[serial] = place
+        self.serials.setdefault(address, collections.OrderedDict())[serial] = None
+
+    def forget(self, serial, address):
+        """Takes a connection away that has ended, if it was denied."""
+        if self.verdicts.pop(serial, None) is not None:
+            del self.serials[address][serial]
+            if not self.serials[address]:
+                del self.serials[address]
+
+    def end(self, place):
+        self.ends.append(place)
+        self.open += 1
+        self.following.append(len(self.ends))
+
+    def open_from(self, index):
+        """The first end from one on that is not given. The ways there are halved on each walk: whoever comes next has less to go."""
+        following = self.following
+        while following[index] != index:
+            following[index] = following[following[index]]
+            index = following[index]
+        return index
+
+    def give(self, address):
+        """Gives an end to a connection from this address: its place and the serial, if there is one. Of the ends that any of them can have had it is the
+        first, which is of use to the fewest others. The first that was denied can have had it."""
+        if address not in self.serials:
+            return None
+        serial = next(iter(self.serials[address]))
+        index = self.open_from(bisect.bisect_left(self.ends, self.verdicts[serial]))
+        if index == len(self.ends):
+            return None
+        self.following[index] = index + 1
+        self.open -= 1
+        self.forget(serial, address)
+        return self.ends[index], serial
+
+    def rest(self):
+        """Each end that is left with a connection, the first with the first. At no place are there more ends than verdicts before it, so they fit."""
+        places = (place for index, place in enumerate(self.ends) if self.following[index] == index)
+        return list(zip(places, self.verdicts))
 
 
 def line_of(number, text):
-    """The server's own line in a line of its log, if there is one: all of it, or what stands behind the beginning of a program's line."""
-    begins = text.find(NAME)
-    if begins < 0 or RECORDED.match(text) or text == NO_NAMES or BESIDE.fullmatch(text, begins + len(NAME)):
+    """The server's own line in a line of its log, if there is one: all of it, or what stands behind the beginning of another line. That may be one of a
+    program, or the unfinished last line of the log, which `tac` puts in front of the line before."""
+    begins = text.rfind(NAME)
+    if begins < 0 or RECORDED.match(text):
         return None
     for kind, form in FORMS:
         match = form.fullmatch(text, begins + len(NAME))
         if match:
             return Line(number, kind, [field.decode() for field in match.groups()])
-    return None if begins else Line(number, "unknown", [text.decode("utf-8", "replace")])
+    return Line(number, "unknown", [text.decode("utf-8", "replace")]) if text.startswith(NAME) else None
 
 
 def lines_of(log):
-    """The server's own lines in a log."""
-    lines = (line_of(number, text) for number, text in enumerate(log.split(b"\n"), 1))
+    """The server's own lines in a log. Behind the last line feed there is no line yet."""
+    lines = (line_of(number, text) for number, text in enumerate(log.split(b"\n")[:-1], 1))
     return [line for line in lines if line]
 
 
@@ -97,119 +165,153 @@ class Events:
         self.per = per
         self.events = []
         self.faults = []
-        # those alive, by serial, and the denied ends that no connection has yet, by their places in the list
+        # those alive, by serial, and how many there are of each address
         self.alive = {}
-        self.ends = []
+        self.counts = {}
+        self.endings = Endings()
+        # how many more are alive than the log has lines of, and the serial below which there may be such
+        self.beyond = 0
+        self.lacking = 0
+        self.cut = False
+        self.next = 1
         self.most = 0
         self.retired = 0
         self.admitted = 0
         self.full = 0
-        self.last_live = 0
         self.read(lines_of(log))
-        self.place_ends()
+        self.last_live = self.live()
+        self.end_all_denied()
 
     def fault(self, line, text):
         self.faults.append("line %d: %s" % (line.number, text))
 
     def live(self):
         """How many are alive: of those denied some have ended that are not named yet."""
-        return len(self.alive) - len(self.ends)
+        return len(self.alive) - self.endings.open + self.beyond
 
     def add(self, *words):
         self.events.append(" ".join(words))
 
     def read(self, lines):
-        if not lines or lines[0].kind != "status":
+        first = next((line for line in lines if line.kind not in ("message", "beside", "unknown")), None)
+        if not lines or (first and first.kind != "status"):
             self.faults.append("the log does not begin with a status line")
+            self.cut, self.lacking = True, ALL
+        lines = [line for line in lines if line.kind != "beside"]
         owed = None
         for place, line in enumerate(lines):
             after = lines[place + 1].kind if place + 1 < len(lines) else None
             if owed and line.kind != "status":
                 self.fault(owed, "no status line follows")
-            if line.kind == "pid" and (place == 0 or lines[place - 1].kind != "status"):
+            if line.kind == "pid" and line is not first and lines[place - 1].kind != "status":
                 self.fault(line, "no status line in front")
             if line.kind == "status":
-                self.see_status(line, place == 0, owed, after)
+                self.see_status(line, owed, after)
             else:
                 getattr(self, "see_" + line.kind)(line)
             owed = line if line.kind in ("end", "retired", "drop") or self.is_start_fault(line) else None
-        self.last_live = self.live()
 
     @staticmethod
     def is_start_fault(line):
         return line.kind == "start" and line.fields[1] != "no pipe ends"
 
-    def see_status(self, line, first, owed, after):
+    def see_status(self, line, owed, after):
         live, limit = map(int, line.fields)
         if self.limit not in (None, limit):
             self.fault(line, "another limit than before")
-        self.limit = limit
-        if not first and not owed and after != "pid":
-            self.see_denied_end(line)
-        said = live - 1 if after == "pid" else live
-        if said != self.live():
-            self.fault(line, "%d alive, and by the events before %d" % (said, self.live()))
-
-    def see_denied_end(self, line):
-        waiting = sum(connection.denied is not None for connection in self.alive.values())
-        if len(self.ends) >= waiting:
-            self.fault(line, "a status line of no event")
+        first, self.limit = self.limit is None, limit
+        if after is None and not owed and self.live() + 1 == live <= limit:
+            # (the line of who was let in is behind the end of the log)
             return
-        self.ends.append(len(self.events))
-        self.events.append(None)
+        said = live - 1 if after == "pid" else live
+        if not (first or owed or after == "pid" or self.is_denied_end(said)):
+            self.fault(line, "a status line of no event")
+        elif said != self.live() and not (first and self.cut):
+            self.fault(line, "%d alive, and by the events before %d" % (said, self.live()))
+        if said > self.live():
+            self.lacking = ALL
+        self.beyond += said - self.live()
+
+    def is_denied_end(self, said):
+        """Whether a connection that was denied may have ended, so that this many are left: one of those known, or one that the log has no line of."""
+        if said != self.live() - 1:
+            return False
+        if self.endings.open < len(self.endings.verdicts):
+            self.endings.end(len(self.events))
+            self.events.append(None)
+            if self.endings.open == len(self.endings.verdicts):
+                self.end_all_denied()
+            return True
+        if self.beyond > 0:
+            self.beyond -= 1
+            return True
+        return False
 
     def see_pid(self, line):
         serial, address = line.fields
         limit = self.limit if self.per is None else self.per
-        while limit and self.ends and self.of_address(address) >= limit and self.end_one_of(address):
-            pass
+        while limit and self.counts.get(address, 0) >= limit:
+            given = self.endings.give(address)
+            if not given:
+                break
+            self.end_denied(*given)
+        if int(serial) != self.next:
+            self.fault(line, "serial %s, and %d is next" % (serial, self.next))
+            if int(serial) < self.next:
+                self.begin_anew()
+            self.lacking = int(serial)
+        self.lacking = min(self.lacking, int(serial))
+        self.next = int(serial) + 1
         self.admitted += 1
-        if int(serial) != self.admitted:
-            self.fault(line, "serial %s, and %d is next" % (serial, self.admitted))
-        self.alive[serial] = Connection(address)
+        self.enter(serial, address)
         self.most = max(self.most, self.live())
         self.add("admitted", serial, address)
 
-    def of_address(self, address):
-        return sum(connection.address == address for connection in self.alive.values())
+    def begin_anew(self):
+        """Goes on as in another run, to which none belongs of those that are alive: lines may name their serials again."""
+        live = self.live()
+        self.end_all_denied()
+        self.alive, self.counts, self.beyond = {}, {}, live
 
-    def end_one_of(self, address):
-        """Gives an end to a denied connection from this address: the first end after its verdict. Whether there was one."""
-        for serial, connection in reversed(list(self.alive.items())):
-            if connection.address == address and connection.denied is not None:
-                for place in self.ends:
-                    if place >= connection.denied:
-                        self.end_at(place, serial)
-                        return True
-        return False
+    def enter(self, serial, address):
+        self.alive[serial] = Connection(address)
+        self.counts[address] = self.counts.get(address, 0) + 1
 
-    def end_at(self, place, serial):
+    def leave(self, serial):
+        address = self.alive.pop(serial).address
+        self.endings.forget(serial, address)
+        self.counts[address] -= 1
+        if not self.counts[address]:
+            del self.counts[address]
+
+    def end_denied(self, place, serial):
         self.events[place] = "dropped " + serial
-        self.ends.remove(place)
-        del self.alive[serial]
+        self.leave(serial)
 
-    def place_ends(self):
-        """Gives the ends that are left to the denied connections, the first to the first."""
-        for place in list(self.ends):
-            for serial, connection in self.alive.items():
-                if connection.denied is not None and connection.denied <= place:
-                    self.end_at(place, serial)
-                    break
+    def end_all_denied(self):
+        """Gives all ends that are left: where as many have ended as were denied, or at the end of the log."""
+        endings, self.endings = self.endings, Endings()
+        for place, serial in endings.rest():
+            self.end_denied(place, serial)
 
     def known(self, line, serial):
+        """The connection of a serial. One that the log does not let in is among those that are alive beyond its lines."""
         if serial not in self.alive:
-            self.fault(line, "connection %s is not alive" % serial)
-        return self.alive.get(serial, Connection(None))
+            if int(serial) >= self.lacking:
+                self.fault(line, "connection %s is not alive" % serial)
+            self.enter(serial, None)
+            self.beyond -= 1
+        return self.alive[serial]
 
     def see_verdict(self, line):
         verdict, serial, _, address = line.fields
         connection = self.known(line, serial)
-        if connection.address != address:
+        if connection.address not in (None, address):
             self.fault(line, "another address than before")
         self.add("opened", serial, "yes")
         self.add("decided", serial, "allow" if verdict == "ok" else "deny")
         if verdict == "deny":
-            connection.denied = len(self.events)
+            self.endings.deny(serial, connection.address, len(self.events))
 
     def start(self, line, serial):
         connection = self.known(line, serial)
@@ -221,7 +323,7 @@ class Events:
         serial, status = line.fields
         self.start(line, serial)
         self.add("ended", serial, status)
-        self.alive.pop(serial, None)
+        self.leave(serial)
 
     def see_retired(self, line):
         self.start(line, line.fields[0])
@@ -234,7 +336,7 @@ class Events:
         if cause in ("rules read fault", "rules damaged"):
             self.add("opened", serial, "yes")
         self.add("dropped", serial)
-        self.alive.pop(serial, None)
+        self.leave(serial)
 
     def see_start(self, line):
         serial, fault = line.fields
@@ -243,16 +345,13 @@ class Events:
             return
         self.known(line, serial)
         self.add("startfailed", serial)
-        self.alive.pop(serial, None)
+        self.leave(serial)
 
     def see_full(self, line):
         self.full += 1
 
-    def see_memory(self, line):
-        pass
-
-    def see_ending(self, line):
-        pass
+    def see_message(self, line):
+        """The server says something, and nothing has happened to a connection."""
 
     def see_unknown(self, line):
         self.fault(line, "not a line of this server: %s" % line.fields[0])

@@ -11,6 +11,7 @@ import shutil
 import socket
 import subprocess
 import tempfile
+import threading
 import time
 
 from shared import log_forms
@@ -45,6 +46,11 @@ exec setpriv --reuid "$user" --regid "$(id -g "$user")" --clear-groups "$@" 3<&-
 POP3D = """#!/bin/sh
 echo "+OK $1"
 exec cat /proc/self/status
+"""
+# a tcprules that is slow to end
+RENAMED = """#!/bin/sh
+case $1 in -N) exit 0 ;; esac
+printf new > "$2" && mv "$2" "$1" && exec sleep 60
 """
 # where Exim may deliver nothing, and knows as its own only this domain
 EXIM = """spool_directory = %(spool)s
@@ -475,6 +481,22 @@ def texts(checks, kitchen):
             checks.holds("texts of which it tells", "tcprules: line 1: no verdict\n" in ended.stdout, ended.stdout)
 
 
+def ended_make(checks, kitchen):
+    """A signal to make, while tcprules has put new rules there and has not ended yet, deletes none."""
+    os.unlink(os.path.join(kitchen.bin, "tcprules"))
+    kitchen.command("tcprules", RENAMED)
+    for folder, makefile, rules, text in (("rules", "Makefile", "a.cdb", "a.rules"), ("rules", "Makefile.strict", "a.cdb", "a.rules"), ("mail", "Makefile", "rules.cdb", "rules")):
+        there = os.path.join(kitchen.examples, folder, rules)
+        kitchen.write("examples/%s/%s" % (folder, rules), "old")
+        os.utime(there, (0, 0))
+        kitchen.write("examples/%s/%s" % (folder, text), ":deny\n")
+        process = kitchen.start(["make", "-C", "examples/" + folder, "-f", makefile], "make-log")
+        wait_until("a rename", lambda there=there: kitchen.read(there) == "new")
+        process.terminate()
+        process.wait(WAIT)
+        checks.holds("rules of %s in %s, whose make was ended" % (makefile, folder), os.path.exists(there), kitchen.read("make-log"))
+
+
 def machines(checks, kitchen):
     """After each of the two ways every machine has the compiled file that this one has."""
     kitchen.needs("rsync", "sync")
@@ -544,11 +566,59 @@ def waiting(checks, kitchen):
     checks.expect("without that", (ended.returncode, ended.stdout), (111, "tcpserver: cannot wait for programs\ntcpserver: cause: SIGCHLD is ignored\n"))
 
 
+def changes(checks, kitchen):
+    """Each verdict is counted, whatever a program has left in front of it, and no client writes one; any name may be the text's."""
+    verdict = "tcpserver: ok %d :10.0.0.1:25 :192.0.2.%d::5"
+    lines = [
+        verdict % (1, 1), "working.." + verdict % (2, 2), "@4000000067b3c1a10c2f5e3c %% tcpserver: " + verdict % (3, 3),
+        "2025-02-18_06:31:02.51184 \xff\xfe" + verdict % (4, 4), "12 < " + verdict % (5, 5), "@4000000067b3c1a10c2f5e3c 12 > " + verdict % (6, 6),
+        "echo: " + verdict % (7, 7) + " more", "echo: tcpserver: ok", verdict.replace("ok", "deny") % (8, 8),
+    ]
+    with open(os.path.join(kitchen.folder, "log"), "w", encoding="latin-1") as file:
+        file.write("\n".join(lines) + "\n")
+    wanted = ["installed"] + ["%d 192.0.2.%d  was ok, now deny rule :" % (serial, serial) for serial in (1, 2, 3, 4)] + ["changed 4 of 5"]
+    for name in ("rules", "n=1", "-", "-n", "a b"):
+        kitchen.write(os.path.join("examples/verdicts", name), ":deny\n")
+        for locale in ("C", "C.UTF-8"):
+            ended = kitchen.run("cd examples/verdicts && ./changes '%s' < ../../log" % name, LC_ALL=locale)
+            checks.expect("changes %s, in %s" % (name, locale), ended.stdout.splitlines(), wanted)
+
+
+def changes_of_programs(checks, kitchen):
+    """A server whose programs end their lines late: all clients are counted, also where such a line stands in front of a verdict."""
+    kitchen.needs_server()
+    port, clients = free_port(), 0
+    kitchen.start(["tcpserver", "-v", "127.0.0.1", str(port), "sh", "-c", "printf working.. >&2; sleep 0.05; echo done >&2"], "working-log")
+    wait_until("a server", lambda: listens(port))
+    while clients < 200 and not re.search("^working.*tcpserver: ok ", kitchen.read("working-log"), re.M):
+        threads = [threading.Thread(target=converse, args=(port, "")) for _ in range(8)]
+        for thread in threads:
+            thread.start()
+        for thread in threads:
+            thread.join()
+        clients += len(threads)
+    wait_until("the end of each", lambda: kitchen.read("working-log").count("tcpserver: end ") >= clients)
+    counted = kitchen.run("cd examples/verdicts && ./changes rules < ../../working-log").stdout.splitlines()[-1]
+    let_in = kitchen.read("working-log").count("tcpserver: ok ")
+    checks.expect("changes: clients of programs that end their lines late", counted, "changed 0 of %d" % let_in)
+    checks.holds("changes: all clients", let_in >= clients, (let_in, clients))
+
+
 def audited_log(checks, kitchen):
     """The log of the document is one that a server can have written."""
     for run in kitchen.read("examples/audit/log").split("starting\n")[1:]:
         events = log_forms.events_of(run.encode(), 2)
         checks.expect("the log of the document: what does not fit", events.faults, [])
+
+
+def audited_end(checks, kitchen):
+    """The log of a server that still runs ends anywhere, and its last run is audited nevertheless."""
+    log = kitchen.read("examples/audit/log")
+    # (behind the first status of the second run)
+    for length in range(log.rindex("starting\n") + 40, len(log), 11):
+        kitchen.write("log", log[:length])
+        ended = kitchen.run("tac log | sed '/^starting$/q' | tac > last; scripts/log_events.py 2 < last > script && ucspi rulesim < script")
+        checks.holds("a log of %d bytes" % length, ended.returncode == 0 and ended.stdout.startswith("admitted "), ended.stdout)
 
 
 def over(checks, kitchen):
@@ -570,7 +640,7 @@ def over(checks, kitchen):
 # the recipes by what of them runs in Python; each title of the document has its lines run too
 SERVICES = {
     "From djb's in five minutes": [over],
-    "New rules under a running server": [texts],
+    "New rules under a running server": [texts, ended_make],
     "A mail service under daemontools": [mail],
     "qmail, and POP3": [qmail, pop3],
     "Exim and Sendmail": [exim],
@@ -579,7 +649,8 @@ SERVICES = {
     "rsync under systemd": [rsync, unit],
     "Rules by name": [names],
     "One rule text for a hundred machines": [machines],
-    "Reading and auditing a log": [audited_log],
+    "Reading and auditing a log": [audited_log, audited_end],
+    "What new rules would have done": [changes, changes_of_programs],
     "What to do when `no places left` comes": [waiting],
 }
 

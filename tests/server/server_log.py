@@ -9,6 +9,7 @@ import tempfile
 import threading
 import time
 
+import log_events
 from shared import compiled_files, failed_calls, log_forms, server_runs
 from shared.checks import SCRIPTS
 from shared.server_runs import read_all
@@ -21,6 +22,9 @@ FREE = ["status: 0/1"]
 ENDED = [log_forms.end(1)]
 # how long none has come, in seconds, where no more of a burst will come
 NONE_COMES = 20
+# how many denied connections a long log has, and in how many seconds of the processor it is read at most: it takes one, and took a minute
+MANY = 20000
+READ_TIME = 10
 
 
 def one_rule():
@@ -462,6 +466,9 @@ def audits(suite):
         (head + ok + b"sh: 1: " + end + free + b"echo: fault\n", "admitted 1 live 0 retired 0 most 1", 0),
         (head + ok + end + free + b"sh: 1: " + second + b"echo: fault\n", "admitted 2 live 1 retired 0 most 1", 0),
         (head + ok + b"12 > " + end + b"1 of tcpserver: all\n", "admitted 1 live 1 retired 0 most 1", 0),
+        # a line that is not finished may begin as the server's own
+        (head + ok + b"tcpserver: sta" + end + free, "admitted 1 live 0 retired 0 most 1", 0),
+        (head + ok + b"tcpserver: statcpserver: ended\n" + end + free, "admitted 1 live 0 retired 0 most 1", 1),
     ]
     # lines that tell no event are passed over, wherever they stand, and no others
     beside = log_forms.log("listening on 2.2.2.2:25"), log_forms.log("runs 1 process 4711"), log_forms.log("cause: 1: signal 9")
@@ -504,6 +511,9 @@ def audits(suite):
         words = ["bash", "-c", '"$@" %s' % streams, "bash", sys.executable, script]
         ended = subprocess.run(words, input=head + free, stdout=subprocess.PIPE, timeout=server_runs.WAIT)
         suite.expect("the log reader with a fault and " + streams, (ended.returncode, ended.stdout), (1, b"events 1\nevent admitted 1 1.1.1.1\nreplay\n"))
+    # (a line without its end, and a message of a server that is not started, are no faults of other logs)
+    suite.expect("a part of a line", len(log_forms.events_of(head + ok + end[:-1]).faults), 1)
+    suite.expect("a message within", len(log_forms.events_of(head + log_forms.log("cannot listen") + ok).faults), 1)
     # the checks of this version's logs pass over nothing
     whole, longer = [head + ok + b"sh: 1: " + log_forms.log(log_forms.end(1, "signal") + more) + free for more in ("", " more")]
     suite.expect("ends of this version", (log_forms.events_of(whole).faults, len(log_forms.events_of(longer).faults)), ([], 1))
@@ -523,6 +533,129 @@ def audits_of_ends(suite):
     suite.expect("the replay of denied ends", ended.stdout.decode(), "admitted 3 live 0 retired 0 most 2\n")
 
 
+    # those of 1.1.1.1 can have had either end, and that of 2.2.2.2 only the second; a denied one of 3.3.3.3 is alive throughout
+    addresses = ("3.3.3.3", "1.1.1.1", "2.2.2.2", "1.1.1.1", "2.2.2.2")
+    lines = [line for serial, ip in enumerate(addresses, 1) for line in (log_forms.status(serial, 9), log_forms.pid(serial, ip))]
+    denies = [log_forms.verdict("deny", serial, ":0.0.0.0:1", ":%s::%d" % (addresses[serial - 1], serial)) for serial in (1, 2, 3, 4)]
+    lines = [log_forms.status(0, 9)] + lines + denies[:2] + [log_forms.status(4, 9)] + denies[2:] + [log_forms.status(3, 9)]
+    lines += [log_forms.status(4, 9), log_forms.pid(6, "1.1.1.1"), log_forms.status(5, 9), log_forms.pid(7, "2.2.2.2")]
+    read = read_log(suite, log_forms.log(*lines), 2)
+    suite.expect("an end that one of two addresses needs", read, ([], "admitted 7 live 5 retired 0 most 5"))
+
+
+def replayed(suite, *scripts):
+    """The answers of `rulesim` to the scripts of several logs."""
+    ended = subprocess.run([suite.program, "rulesim"], input="".join(scripts).encode(), stdout=subprocess.PIPE, timeout=server_runs.WAIT)
+    return ended.stdout.decode().splitlines()
+
+
+def read_log(suite, log, per=None):
+    """What the log reader reports of a log, and the answer to its script."""
+    events = log_events.Events(log, per)
+    return events.faults, replayed(suite, events.script())[0]
+
+
+def let_in(serial, alive, ip="1.1.1.1"):
+    """The lines of a connection that is let in, as one of so many."""
+    return [log_forms.status(alive, 9), log_forms.pid(serial, ip)]
+
+
+def decided(word, serial, ip="1.1.1.1"):
+    return log_forms.verdict(word, serial, ":2.2.2.2:25", ":%s::%d" % (ip, serial))
+
+
+def mixed_log():
+    """The lines of a run with events of all kinds."""
+    lines = [log_forms.status(0, 9)] + let_in(1, 1) + [decided("ok", 1)] + let_in(2, 2, "1.1.1.2") + [decided("deny", 2, "1.1.1.2")]
+    lines += let_in(3, 3, "1.1.1.12") + [decided("deny", 3, "1.1.1.12"), log_forms.status(2, 9)] + let_in(4, 3) + [log_forms.full("1.1.1.1")]
+    lines += [log_forms.drop(4, "rules damaged"), "cause: rules.cdb: damaged rule", log_forms.status(2, 9), log_forms.status(1, 9)]
+    lines += [log_forms.end(1, 127), log_forms.status(0, 9)] + let_in(5, 1) + [decided("ok", 5), log_forms.start(5, "not found"), log_forms.status(0, 9)]
+    return lines + let_in(6, 1) + [decided("ok", 6), log_forms.retired(6), log_forms.status(1, 9)]
+
+
+def audits_of_cuts(suite):
+    """The log of a server that still runs ends anywhere, within a line or within an event, and nothing of it is in doubt for that."""
+    log = log_forms.log(*mixed_log())
+    begun = len(log_forms.log(log_forms.status(0, 9)))
+    cuts = [log_events.Events(log[:length]) for length in range(begun, len(log) + 1)]
+    suite.expect("logs that end anywhere", [(begun + place, events.faults) for place, events in enumerate(cuts) if events.faults], [])
+    answers = replayed(suite, *(events.script() for events in cuts))
+    suite.expect("the replay of logs that end anywhere", answers, [events.report().strip() for events in cuts])
+    # but a last status that no connection's line can follow is in doubt
+    head = [log_forms.status(0, 9)] + let_in(1, 1) + [decided("ok", 1)]
+    for line in (log_forms.status(0, 9), log_forms.status(1, 9), log_forms.status(3, 9)):
+        suite.expect("a log that ends with " + line, read_log(suite, log_forms.log(*head, line))[0], ["line 5: a status line of no event"])
+
+
+def audits_of_lost_lines(suite):
+    """Where lines of a log are lost each loss is named once, and what comes behind it is read by the log's own numbers."""
+    begin, jump = "the log does not begin with a status line", "line %d: serial %d, and %d is next"
+    later = [line for serial in range(715, 730) for line in let_in(serial, 1) + [decided("ok", serial), log_forms.end(serial), log_forms.status(0, 9)]]
+    two = let_in(5, 3) + [decided("ok", 5), log_forms.end(5), log_forms.status(2, 9), decided("deny", 4), log_forms.end(3), log_forms.status(1, 9)]
+    two += [log_forms.status(0, 9)] + let_in(6, 1) + [decided("deny", 6), log_forms.status(0, 9)]
+    run = [log_forms.status(0, 9)] + let_in(1, 1) + let_in(2, 2, "1.1.1.2") + [decided("ok", 1), decided("ok", 2, "1.1.1.2")]
+    last = run + [log_forms.end(2), log_forms.status(1, 9), log_forms.end(1), log_forms.status(0, 9)] + let_in(3, 1)
+    cases = [
+        ("serials from 715 on", later, [jump % (2, 715, 1)]),
+        ("a log from a verdict on", later[2:], [begin, jump % (5, 716, 1)]),
+        ("a log from an end on", later[3:], [begin, jump % (4, 716, 1)]),
+        ("a log from a status on", later[4:], [jump % (3, 716, 1)]),
+        ("a log from `pid` on", later[1:], [begin, jump % (1, 715, 1)]),
+        ("two that were let in before", [log_forms.status(2, 9)] + two, ["line 1: 2 alive, and by the events before 0", jump % (3, 5, 1)]),
+        ("two that were let in before, and no status", [decided("ok", 3)] + two, [begin, jump % (3, 5, 1)]),
+        ("lines between", last[:7] + later, ["line 8: 0 alive, and by the events before 2", jump % (9, 715, 3)]),
+        ("a run behind another", run + last, ["line 8: a status line of no event", jump % (10, 1, 3)]),
+        ("a run behind another that was over", last[:-2] + last, ["line 12: a status line of no event", jump % (14, 1, 3)]),
+        ("`pid` lost", last[:2] + last[3:], ["line 2: a status line of no event", jump % (4, 2, 1)]),
+    ]
+    for name, lines, wanted in cases:
+        faults, answer = read_log(suite, log_forms.log(*lines))
+        suite.expect(name, faults, wanted)
+        suite.holds(name + ": what comes of it", answer.startswith("illegal "), answer)
+
+
+def audits_of_messages(suite):
+    """What a server prints that is not started, or not any more, tells no event: alone, and in front of a run and behind it."""
+    table, named = suite.path("wrong-table", "no table\n"), suite.install("=.example:deny\n", "named.cdb")
+    there = ["127.0.0.1", "0", "true"]
+    calls = [
+        [], ["0", "x", "true"], ["-v", "0", "0"], ["-Z", *there], ["-c"], ["-r", *there], ["-u", "1", *there], ["-c", "0", *there], ["-w", "x", *there],
+        ["-N", suite.path("absent"), *there], ["-N", table, *there], ["-x", suite.path("absent/rules.cdb"), *there], ["-v", "192.0.2.1", "25", "true"],
+        ["-v", "-x", named, "192.0.2.1", "25", "true"],
+    ]
+    run = log_forms.log(*mixed_log())
+    wanted = read_log(suite, run)
+    for command in ([suite.program, "tcpserver"], [suite.linked()]):
+        for words in calls:
+            said = subprocess.run(command + words, stdin=subprocess.DEVNULL, stderr=subprocess.PIPE, timeout=server_runs.WAIT).stderr
+            suite.holds("a server that is not started prints something", said.startswith(b"tcpserver: "), said)
+            suite.expect("%r" % said[:200], read_log(suite, said), ([], "admitted 0 live 0 retired 0 most 0"))
+            suite.expect("%r around a run" % said[:200], read_log(suite, said + run + said), wanted)
+    for line in (
+        "cannot wait for programs", "write fault", "out of memory", "rules by name, and no names", "listening on 0.0.0.0:25", "accept fault",
+        "lost connection", "no places left",
+    ):
+        suite.expect(line, read_log(suite, log_forms.log(line)), ([], "admitted 0 live 0 retired 0 most 0"))
+        suite.expect(line + " around a run", read_log(suite, log_forms.log(line) + run + log_forms.log(line)), wanted)
+    suite.expect("a message of nobody", read_log(suite, log_forms.log("cannot say") + run)[0], ["line 1: not a line of this server: tcpserver: cannot say"])
+    suite.expect("no lines", read_log(suite, b"no log\n")[0], ["the log does not begin with a status line"])
+
+
+def audits_of_many(suite):
+    """A long log of denied connections is read in a time that grows with its length: each ends before the next, one of them is alive all the time, and
+    then their addresses are at a limit."""
+    for others, per in ((0, None), (1, None), (1, 2)):
+        lines = [log_forms.status(0, 9)] + (let_in(1, 1) + [decided("deny", 1)] if others else [])
+        for serial in range(others + 1, MANY + 1):
+            ip = "10.0.%d.%d" % (serial >> 8 & 255 if per is None else serial & 1, serial & 255 if per is None else 1)
+            lines += let_in(serial, others + 1, ip) + [decided("deny", serial, ip), log_forms.status(others, 9)]
+        begun = time.process_time()
+        events = log_events.Events(log_forms.log(*lines), per)
+        took = time.process_time() - begun
+        suite.expect("%d denied, %d of them alive" % (MANY, others), (events.faults, events.admitted, events.last_live), ([], MANY, others))
+        suite.holds("%d denied, %d of them alive: the time" % (MANY, others), took < READ_TIME, took)
+
+
 def plain_log(suite):
     """The lines that djb's server has too, with its process numbers in place of serials."""
     with suite.start(["-v", "-c", "2", "-l", "a:b", "-R", "-H"], ["sh", "-c", "echo hi"]) as server:
@@ -537,6 +670,7 @@ def plain_log(suite):
 
 CHECKS = [
     plain_log, ends, start_faults, denied, dropped, lost_banner, address_full, retired, fields, levels, each_line, bursts, audits, audits_of_ends,
+    audits_of_cuts, audits_of_lost_lines, audits_of_messages, audits_of_many,
 ]
 COMMON = [plain_log]
 HANDED = [plain_log, ends, start_faults, denied, dropped, lost_banner, address_full, retired, levels, each_line, bursts]

@@ -65,6 +65,10 @@ def log(*lines):
 
 # what only older versions logged, which the log reader still takes
 OLDER = re.compile(rb"tcpserver: (drop \d+ no thread|start \d+ no pipe ends)")
+# what a server prints that is not started
+NOT_STARTED = re.compile(
+    rb"tcpserver: (cannot listen|cannot wait for programs|(device|read|write) fault|host table line \d+|bad wrappers|(unknown )?option -.*"
+    rb"|(usage|hint): .*)")
 # one that a program may have begun to write, with the server's own line behind that
 WHOLE_END = re.compile(rb"tcpserver: %s" % any_end(ANY).encode())
 
@@ -72,13 +76,15 @@ WHOLE_END = re.compile(rb"tcpserver: %s" % any_end(ANY).encode())
 def is_other_end(text):
     """Whether the log reader takes a line for an end and passes over a part of it."""
     line = log_events.line_of(0, text)
-    return line is not None and line.kind == "end" and not WHOLE_END.fullmatch(text, text.index(b"tcpserver: "))
+    return line is not None and line.kind == "end" and not WHOLE_END.fullmatch(text, text.rindex(b"tcpserver: "))
 
 
 def events_of(text, per=None):
-    """The events of a log, and what does not fit in it: what the log reader finds, what it passes over behind an end, for later versions, and what it
-    takes of older ones."""
+    """The events of a log, and what does not fit in it: what the log reader finds, what it passes over behind an end, for later versions, what it takes of
+    older ones, and what it takes of a log that is not whole or is of a server that was not started."""
     events = log_events.Events(text, per)
     events.faults += ["more than an end: %r" % line for line in text.split(b"\n") if is_other_end(line)]
     events.faults += ["of an older version: %r" % line for line in text.split(b"\n") if OLDER.fullmatch(line)]
+    events.faults += ["of a server that was not started: %r" % line for line in text.split(b"\n") if NOT_STARTED.fullmatch(line)]
+    events.faults += ["a part of a line: %r" % line for line in text.split(b"\n")[-1:] if b"tcpserver: " in line]
     return events
