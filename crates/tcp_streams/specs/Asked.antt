@@ -1,11 +1,16 @@
 -- What connections come from, and how their bytes pass.
-use Rattle.std.specs.Prelude.{◌≡◌, Bool, true, false, is_some}
+use Rattle.std.specs.Prelude.{◌≡◌, ℕ, Bool, true, false, Option, option_map}
+use Rattle.byte_streams.specs.declared.recording.Way.TheVariants.{Input, Output}
 use Rattle.server_words.specs.declared.mode.Mode.{Mode}
 use Rattle.server_words.specs.declared.mode.Mode.TheVariants.{HandedOver, Pumped}
 use Rattle.server_words.specs.Plans.{ServerPlan}
+use Rattle.tcp_streams.specs.Taps.{Records}
+use Rattle.tcp_streams.specs.Wrappers.{IsNewChain}
+use Rattle.tcp_streams.specs.declared.passing.Passage.{Passage}
 use Rattle.tcp_streams.specs.declared.passing.Passing.{Passing}
 use Rattle.tcp_streams.specs.declared.programs.ProgramStarter.{ProgramStarter}
 use Rattle.tcp_streams.specs.declared.programs.ServiceJob.{ServiceJob}
+use Rattle.tcp_streams.specs.declared.sockets.Connection.{Connection}
 use Rattle.tcp_streams.specs.declared.sockets.SocketAcceptor.{SocketAcceptor}
 
 -- the socket that an acceptor's connections come from, and whether what is written to them is sent at once
@@ -32,6 +37,18 @@ abbrev pub pumps : Mode → Bool
 pumps HandedOver = false
 pumps Pumped = true
 
--- the connection of a job is pumped
-abbrev pub is_pumped : {R E : Type 0} → ServiceJob R E → Bool
-is_pumped job = is_some job.passage
+-- the port of a connection's client
+abbrev pub port_of : {R : Type 0} → Connection R → ℕ
+port_of connection = connection.port
+
+-- the connection of a job, if it is pumped
+abbrev pub passage_of : {R E : Type 0} → ServiceJob R E → Option (Passage R E)
+passage_of job = option_map (λ passage. passage.value) job.passage
+
+-- a connection passes through new wrappers, each way by its names in their order; and both ways are recorded with this
+-- port exactly if that is asked for
+pub record IsNewPassage {R E : Type 0} (passing : Passing) (port : ℕ) (passage : Passage R E) : Type 0 where
+  pub input : IsNewChain passing.input.now passage.upward.chain
+  pub output : IsNewChain passing.output.now passage.downward.chain
+  pub recorded_input : Records passing.recording port Input passage.upward.tap
+  pub recorded_output : Records passing.recording port Output passage.downward.tap

@@ -6,10 +6,8 @@ use Rattle.server_words.specs.declared.wrapping.LineWrapperName.{LineWrapperName
 use Rattle.server_words.specs.declared.wrapping.LineWrapperName.TheVariants.{AddCr, DelCr, FixCr}
 use Rattle.byte_streams.specs.Chains.{has_failed, wrappers_of}
 use Rattle.byte_streams.specs.Wrapped.{added, deleted, fixed}
+use Rattle.byte_streams.specs.Wrappers.{deleted_from, fixed_from}
 use Rattle.byte_streams.specs.declared.chain.Chain.{Chain}
-use Rattle.byte_streams.specs.declared.wrappers.AddCr.{AddCr as AddsCr}
-use Rattle.byte_streams.specs.declared.wrappers.DelCr.{DelCr as DeletesCr}
-use Rattle.byte_streams.specs.declared.wrappers.FixCr.{FixCr as FixesCr}
 
 -- the text that the wrapper of this name writes of a whole text
 abbrev pub changed_by : LineWrapperName → List ℕ → List ℕ
@@ -17,18 +15,20 @@ changed_by AddCr text = added text
 changed_by DelCr text = deleted text
 changed_by FixCr text = fixed text
 
--- what the wrappers of a chain write, one after another, is what those of these names do, the first name first
-abbrev pub WrapsBy : {S : Type 0} → (writes : S → List ℕ → List ℕ) → List LineWrapperName → Chain S → Type 0
-WrapsBy writes names chain = map writes (wrappers_of chain) ≡ map changed_by names
+-- what a wrapper will still write, and what it writes of a whole text
+abbrev pub rest_of : Wrapper → List ℕ → List ℕ
+rest_of (wrapper.AddCr inner) = added
+rest_of (wrapper.DelCr inner) = deleted_from inner.held
+rest_of (wrapper.FixCr inner) = fixed_from inner.after_cr
 
--- what a wrapper tells, each line wrapper in its own way
-abbrev pub told_by : {T : Type 0} → (AddsCr → T) → (DeletesCr → T) → (FixesCr → T) → Wrapper → T
-told_by adds deletes fixes (wrapper.AddCr inner) = adds inner
-told_by adds deletes fixes (wrapper.DelCr inner) = deletes inner
-told_by adds deletes fixes (wrapper.FixCr inner) = fixes inner
+abbrev pub whole_of : Wrapper → List ℕ → List ℕ
+whole_of (wrapper.AddCr inner) = added
+whole_of (wrapper.DelCr inner) = deleted
+whole_of (wrapper.FixCr inner) = fixed
 
--- a chain is of the wrappers of these names and is new: nothing of a text has passed it, and it takes pieces
-pub record IsNewChain (rest whole : Wrapper → List ℕ → List ℕ) (names : List LineWrapperName) (chain : Chain Wrapper) : Type 0 where
-  pub of_names : WrapsBy whole names chain
-  pub at_begin : WrapsBy rest names chain
+-- What the wrappers of a chain write, one after another, is what those of these names do, the first name first. The chain
+-- is new: nothing of a text has passed it, and it takes pieces.
+pub record IsNewChain (names : List LineWrapperName) (chain : Chain Wrapper) : Type 0 where
+  pub of_names : map whole_of (wrappers_of chain) ≡ map changed_by names
+  pub at_begin : map rest_of (wrappers_of chain) ≡ map changed_by names
   pub takes : has_failed chain ≡ false

@@ -1,10 +1,10 @@
 //! One way of a pumped connection, from a stream to another one. No call of it waits.
-ghost use Rattle.std.specs.Prelude.{◌≡◌, ◌<◌, IfSome, length, ⊤};
-ghost use Rattle.tcp_streams.specs.Taps.{Records};
+ghost use Rattle.std.specs.Prelude.{◌≡◌, ◌<◌, IfSome, length};
+ghost use Rattle.tcp_streams.specs.Taps.{Recorded, Records};
 ghost use Rattle.tcp_streams.specs.Wrappers.{IsNewChain};
 
 use crate::wrappers::{Wrapper, chain_of};
-use byte_streams::{Chain, LineWrapper, Recorder, Tap, Way, Why, new_room, pump_once};
+use byte_streams::{Chain, Recorder, Tap, Way, Why, new_room, pump_once};
 use server_words::LineWrapperName;
 use std::alloc::Global;
 use std::io;
@@ -35,9 +35,9 @@ impl<W: Write + Drop> WayTap<W> {
 impl<W: Write> Tap for WayTap<W> {
     ghost watches = { λ tap. tap.way };
 
-    ghost sees = { λ _ _ _. ⊤ };
+    ghost sees = { λ old piece. Recorded (λ recorder. ⟦<Recorder<W> as Tap>⟧.sees recorder piece) old };
 
-    ghost ends = { λ _ _. ⊤ };
+    ghost ends = { Recorded ⟦<Recorder<W> as Tap>⟧.ends };
 
     fn way(&self) -> Way {
         self.way
@@ -75,8 +75,7 @@ pub(crate) struct Lane<W> {
 impl<W: Write + Drop> Lane<W> {
     /// A way through the line wrappers of these names, at its begin. `None` if there is no memory.
     pub fn new(alloc: Global, names: &[LineWrapperName], tap: WayTap<W>) -> Option<Lane<W>>
-        ensures new { IfSome result (λ lane. IsNewChain
-            ⟦<Wrapper as LineWrapper>⟧.rest ⟦<Wrapper as LineWrapper>⟧.whole names.now lane.chain) }
+        ensures new { IfSome result (λ lane. IsNewChain names.now lane.chain) }
         ensures tap { IfSome result (λ lane. lane.tap ≡ tap) }
     {
         let chain = chain_of(alloc, names).ok()?;

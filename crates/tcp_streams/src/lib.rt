@@ -6,8 +6,8 @@
 //! nobody above knows of it.
 //!
 //! It is proved that a job has the program and the variables that were asked for, that it pumps its connection exactly if
-//! the mode says so (`start_for`), and that each way goes through new line wrappers, those of its words in their order,
-//! and is recorded if that is asked for (`Passage::new`). Each piece passes by `byte_streams::pump_once`.
+//! the mode says so, and that each way then goes through new line wrappers, those of its words in their order, and is
+//! recorded if that is asked for (`start_for`). Each piece passes by `byte_streams::pump_once`.
 //! `proofs/Crossing.antt` proves that a job may go to another thread. Tested only: descriptors 0 and 1 are the connection
 //! or the pipes, what one pump keeps is written before the next one, nobody who reads or writes nothing holds up the
 //! other way, and the bounds on clients that take nothing (`Passage`).

@@ -1,12 +1,9 @@
 //! Both ways of a pumped connection, in one thread.
 ghost use Rattle.std.specs.Prelude.{◌≡◌, IfSome};
-ghost use Rattle.byte_streams.specs.declared.recording.Way.TheVariants.{Input, Output};
-ghost use Rattle.tcp_streams.specs.Taps.{Records};
-ghost use Rattle.tcp_streams.specs.Wrappers.{IsNewChain};
+ghost use Rattle.tcp_streams.specs.Asked.{IsNewPassage};
 
 use crate::lanes::{Lane, WayTap};
-use crate::wrappers::Wrapper;
-use byte_streams::{LineWrapper, Patient, Way};
+use byte_streams::{Patient, Way};
 use child_jobs::Job;
 use libc::net::{_SS_SIZE, POLLERR, POLLHUP, POLLIN, POLLOUT};
 use libc::types::pollfd;
@@ -62,7 +59,8 @@ pub struct Passing<'a> {
 /// A connection that is pumped, with the pipe ends of its program while its bytes pass.
 ///
 /// While somebody holds the other end of the program's output, what was written there waits as long as the client does.
-/// Once nobody does, what is left is given up if the client takes nothing for `IDLE` seconds, or after `ALL` seconds.
+/// Once nobody does, what is left is given up if the client takes nothing for `IDLE` seconds, or after `ALL` seconds. The
+/// connection of a client that does not get all ends in a reset.
 #[derive(Drop)]
 pub(crate) struct Passage<'a, R, E> {
     rt: &'a R,
@@ -96,13 +94,8 @@ impl<'a, R: Wait + Clock, E: Write + Copy + Drop> Passage<'a, R, E> {
         errors: E,
         port: u16,
         client: TcpStream,
-    ) -> Option<Passage<'a, R, E>>
-        ensures input { IfSome result (λ passage. IsNewChain ⟦<Wrapper as LineWrapper>⟧.rest
-            ⟦<Wrapper as LineWrapper>⟧.whole passing.now.input.now passage.upward.chain) }
-        ensures output { IfSome result (λ passage. IsNewChain ⟦<Wrapper as LineWrapper>⟧.rest
-            ⟦<Wrapper as LineWrapper>⟧.whole passing.now.output.now passage.downward.chain) }
-        ensures recorded { IfSome result (λ passage. Records passing.now.recording port Input passage.upward.tap
-            × Records passing.now.recording port Output passage.downward.tap) }
+    ) -> Option<Box<Passage<'a, R, E>>>
+        ensures new { IfSome result (λ passage. IsNewPassage passing.now port passage.value) }
     {
         let (recording, number) = (passing.recording, u64::from(port));
         let tap = WayTap::new(
@@ -121,7 +114,7 @@ impl<'a, R: Wait + Clock, E: Write + Copy + Drop> Passage<'a, R, E> {
             Patient::new(rt, errors),
         );
         let downward = Lane::new(alloc, passing.output, tap)?;
-        Some(Passage {
+        let passage = Passage {
             rt,
             client,
             upward,
@@ -129,7 +122,8 @@ impl<'a, R: Wait + Clock, E: Write + Copy + Drop> Passage<'a, R, E> {
             input: None,
             output: None,
             waited: None,
-        })
+        };
+        Box::new(alloc, passage).ok()
     }
 
     /// Passes bytes between the client and this program, until nothing more passes, or the program writes no more and is

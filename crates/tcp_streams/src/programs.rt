@@ -1,6 +1,6 @@
 //! Programs of the system, each with the connection that it serves.
-ghost use Rattle.std.specs.Prelude.{◌≡◌, ⊤, IfErr, IfOk, true};
-ghost use Rattle.tcp_streams.specs.Asked.{is_pumped, passing_of, pumps};
+ghost use Rattle.std.specs.Prelude.{◌≡◌, ⊤, IfErr, IfOk, IfSome, is_some, true};
+ghost use Rattle.tcp_streams.specs.Asked.{IsNewPassage, passage_of, passing_of, port_of, pumps};
 
 use crate::passing::{Passage, Passing};
 use crate::sockets::{Connection, TOO_MANY_FILES, TOO_MANY_FILES_AT_ALL};
@@ -150,7 +150,9 @@ where
         ensures refused { IfErr result (λ _. ⊤) }
         ensures program { IfOk result (λ job. ⟦<OsJob as Job>⟧.program job.job ≡ program.now) }
         ensures environment { IfOk result (λ job. ⟦<OsJob as Job>⟧.environment job.job ≡ environment.now) }
-        ensures mode { IfOk result (λ job. is_pumped job ≡ pumps (passing_of self.now).mode) }
+        ensures mode { IfOk result (λ job. is_some (passage_of job) ≡ pumps (passing_of self.now).mode) }
+        ensures passage { IfOk result (λ job.
+            IfSome (passage_of job) (IsNewPassage (passing_of self.now) (port_of connection.now))) }
     {
         let client = connection.take().ok_or(StartFault::Other)?;
         let (rt, passing, port) = (self.rt, &self.passing, connection.port());
@@ -162,8 +164,7 @@ where
             }
             Mode::Pumped => {
                 let passage = Passage::new(alloc, rt, passing, self.errors, port, client);
-                let passage = Box::new(alloc, passage.ok_or(StartFault::OutOfMemory)?);
-                let passage = Some(passage.ok().ok_or(StartFault::OutOfMemory)?);
+                let passage = Some(passage.ok_or(StartFault::OutOfMemory)?);
                 let job = self.start_in_time(alloc, program, environment, None)?;
                 Ok(ServiceJob { job, passage })
             }

@@ -1,6 +1,7 @@
 //! Connections of the system's sockets.
-ghost use Rattle.std.specs.Prelude.{◌≡◌};
+ghost use Rattle.std.specs.Prelude.{◌≡◌, IfOk};
 ghost use Rattle.std.specs.Io.{WritesAtMost};
+ghost use Rattle.tcp_streams.specs.Asked.{accepts_at_once, accepts_from, port_of};
 
 use child_jobs::Local;
 use std::io;
@@ -28,7 +29,9 @@ pub struct Connection<'a, R> {
 
 impl<'a, R: Wait> Connection<'a, R> {
     /// The client's port.
-    pub(crate) fn port(&self) -> u16 {
+    pub(crate) fn port(&self) -> u16
+        ensures { result ≡ self.now.port }
+    {
         self.port
     }
 
@@ -58,8 +61,6 @@ pub struct SocketAcceptor<'a, R, T> {
 }
 
 impl<'a, R: Wait, T: OpenListener<Stream = TcpStream>> SocketAcceptor<'a, R, T> {
-    ghost use Rattle.tcp_streams.specs.Asked.{accepts_at_once, accepts_from};
-
     /// Those of this listener. What is written to them is sent at once where that is asked for (`-D`).
     pub fn new(rt: &'a R, listener: T, sends_at_once: bool) -> SocketAcceptor<'a, R, T>
         ensures from { accepts_from result ≡ listener }
@@ -90,7 +91,9 @@ where
 {
     type Came = Accepted<Connection<'a, R>>;
 
-    fn accept(&self) -> Result<Accepted<Connection<'a, R>>, AcceptError> {
+    fn accept(&self) -> Result<Accepted<Connection<'a, R>>, AcceptError>
+        ensures port { IfOk result (λ accepted. port_of accepted.connection ≡ accepted.port) }
+    {
         let (local, stream, peer) = match self.next() {
             Ok(next) => next,
             Err(error) => return Err(error_of(&error)),

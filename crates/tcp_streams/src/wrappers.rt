@@ -1,6 +1,6 @@
 //! The line wrappers of a connection whose bytes are passed on.
 ghost use Rattle.std.specs.Prelude.{◌≡◌, IfOk};
-ghost use Rattle.tcp_streams.specs.Wrappers.{IsNewChain, changed_by, told_by};
+ghost use Rattle.tcp_streams.specs.Wrappers.{IsNewChain, changed_by, rest_of, whole_of};
 
 use byte_streams::{AddCr, Chain, DelCr, FixCr, LineWrapper};
 use server_words::LineWrapperName;
@@ -18,9 +18,9 @@ pub(crate) enum Wrapper {
 }
 
 impl LineWrapper for Wrapper {
-    ghost rest = { told_by ⟦<AddCr as LineWrapper>⟧.rest ⟦<DelCr as LineWrapper>⟧.rest ⟦<FixCr as LineWrapper>⟧.rest };
+    ghost rest = { rest_of };
 
-    ghost whole = { told_by ⟦<AddCr as LineWrapper>⟧.whole ⟦<DelCr as LineWrapper>⟧.whole ⟦<FixCr as LineWrapper>⟧.whole };
+    ghost whole = { whole_of };
 
     fn feed(&mut self, piece: &[u8], out: &mut Vec<u8>) -> Result<(), AllocError> {
         match self {
@@ -42,8 +42,8 @@ impl LineWrapper for Wrapper {
 impl Wrapper {
     /// The wrapper of this name, at the begin of a text. It takes no memory.
     pub(crate) fn new(name: LineWrapperName) -> Wrapper
-        ensures rest { ⟦<Wrapper as LineWrapper>⟧.rest result ≡ changed_by name }
-        ensures whole { ⟦<Wrapper as LineWrapper>⟧.whole result ≡ changed_by name }
+        ensures rest { rest_of result ≡ changed_by name }
+        ensures whole { whole_of result ≡ changed_by name }
     {
         match name {
             LineWrapperName::AddCr => Wrapper::AddCr(AddCr),
@@ -62,8 +62,7 @@ pub(crate) fn chain_of(
     alloc: Global,
     names: &[LineWrapperName],
 ) -> Result<Chain<Wrapper>, AllocError>
-    ensures new { IfOk result
-        (IsNewChain ⟦<Wrapper as LineWrapper>⟧.rest ⟦<Wrapper as LineWrapper>⟧.whole names.now) }
+    ensures new { IfOk result (IsNewChain names.now) }
 {
     let mut wrappers = Vec::new(alloc);
     for name in names {

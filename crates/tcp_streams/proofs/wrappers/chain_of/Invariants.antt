@@ -1,6 +1,5 @@
 use Rattle.std.proofs.Common.{◌≡◌, map, take}
-use Rattle.tcp_streams.specs.Wrappers.{changed_by}
-use Rattle.tcp_streams.proofs.LineWrappers.{rest_of, whole_of}
+use Rattle.tcp_streams.specs.Wrappers.{changed_by, rest_of, whole_of}
 use Rattle.tcp_streams.proofs.wrappers.chain_of.Given as goal
 
 abbrev pub invariant-loop-name : goal.invariant-loop-name
