@@ -1,6 +1,5 @@
 -- What a connection finds when it opens the rules.
-use Rattle.std.specs.Prelude.{◌≡◌, ◌⊎◌, ⊤, ℕ, Bool, IsTrue, List, Option, Some, Result, Ok, option_map}
-use Rattle.std.specs.declared.snapshot.Snapshot.{Snapshot}
+use Rattle.std.specs.Prelude.{◌≡◌, ◌⊎◌, ⊤, ℕ, Bool, IsTrue, List, Option, Result, Ok, option_map}
 use Rattle.cdb_files.specs.Reading.{reading}
 use Rattle.dir_calls.specs.declared.fault.DirFault.{DirFault}
 use Rattle.dir_calls.specs.declared.fault.DirFault.TheVariants as directory
@@ -27,15 +26,6 @@ pub record Opening : Type 0 where
 -- what a pass has
 abbrev pub opening_of : {L F : Type 0} {p : _} {l : _} {f : _} → (F → List ℕ) → Pass L F p l f → Opening
 opening_of bytes pass = record { bytes = pass_bytes bytes pass; missing = pass_missing pass }
-
--- what was found, as a snapshot of a pass has it
-abbrev pub kept_opening : {L F : Type 0} {p : _} {l : _} {f : _} → (F → List ℕ) → Option (Snapshot (Pass L F p l f)) → Option Opening
-kept_opening bytes kept = option_map (λ s. opening_of bytes s.value) kept
-
--- a connection found this when it opened the rules, and such a thing may be found
-pub record WasFound (kept : Option Opening) (finds : Opening → Type 0) (found : Opening) : Type 0 where
-  pub its : kept ≡ Some found
-  pub may_be : finds found
 
 -- what it decides of a peer: by the first lookup form that the file has
 abbrev pub decides : Opening → Client → Result Decision DecideFault

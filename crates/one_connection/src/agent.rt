@@ -1,5 +1,5 @@
 //! The agent of a connection.
-ghost use Rattle.std.specs.Prelude.{◌≡◌, ℕ, Bool, Option, Some, true, false, is_some, IfOk, IfErr, OnOk, OnErr};
+ghost use Rattle.std.specs.Prelude.{◌≡◌, ℕ, Bool, true, false, is_some, IfOk, IfErr, OnOk, OnErr};
 ghost use Rattle.child_jobs.specs.Runs.{place_of};
 ghost use Rattle.rule_lookup.specs.declared.instr.Verdict.TheVariants.{Allow};
 ghost use Rattle.rule_lookup.specs.Peers.{Client};
@@ -32,10 +32,9 @@ pub fn cause_of_open(fault: DirFault) -> DropCause
 /// The agent of one connection: it makes the events of the connection after its admission. It is a yard, or one
 /// caller's part of a yard that several share.
 ///
-/// `stands` is what is known of where the connection stands. `found` is what it found when it opened the rules. `tells`
-/// is the event that a call made. If others use the yard too, a call may be out of turn: its event was asked for, and
-/// did not happen. A call that fails answers the cause for which the connection is to be dropped. Out of turn counts as
-/// a fault of the directory.
+/// `stands` is what is known of where the connection stands. `tells` is the event that a call made. If others use the
+/// yard too, a call may be out of turn: its event was asked for, and did not happen. A call that fails answers the cause
+/// for which the connection is to be dropped. Out of turn counts as a fault of the directory.
 pub trait Agent<L: Assumptions> {
     /// The right to one child, which `start_failed` and `dropped` take back: a `Place<L>`.
     type Place;
@@ -65,9 +64,6 @@ pub trait Agent<L: Assumptions> {
 
     /// What an opening of the rules may find now.
     ghost finds: { Self → Opening → Type 0 };
-
-    /// What the connection found when it opened them.
-    ghost found: { Self → Option Opening };
 
     /// Between these two states of the agent it told this event, and no other.
     ghost tells: { Self → EventOf → Self → Type 0 };
@@ -103,7 +99,6 @@ pub trait Agent<L: Assumptions> {
         ensures opened { OnOk result (stands self.new place.now number peer.now stage.Opened) }
         ensures its { IfOk result (λ pass. serial pass ≡ number) }
         ensures found { IfOk result (λ pass. finds self.old (opening pass)) }
-        ensures keeps { IfOk result (λ pass. found self.new ≡ Some (opening pass)) }
         ensures told { IfOk result (λ pass.
             tells_by self.old (opening pass) (Opened number (is_some (opening pass).bytes)) self.new) }
         ensures missing { IfOk result (λ pass. is_missing self.new (opening pass).missing) }
@@ -142,28 +137,24 @@ pub trait Agent<L: Assumptions> {
         ensures refused { OnErr result (stands self.new place.now (serial pass) peer.now stage.Opened) }
         ensures quiet { OnErr result (still self.old self.new) }
         ensures cause { IfErr result (RefusesDecision is_shared) }
-        ensures keeps { found self.new ≡ found self.old }
         ensures failures { failures self.new ≡ failures self.old };
 
     /// Notes that the child of an allowed connection runs.
     fn started<C: Job>(&mut self, running: &Running<L, C>, number: u64, peer: &Peer)
         requires stands { stands self.old (place_of running.now) number peer.now (stage.Decided Allow) }
         ensures told { tells self.old (Started number) self.new }
-        ensures started { is_shared ≡ false → stands self.new (place_of running.now) number peer.now stage.Started }
-        ensures keeps { found self.new ≡ found self.old };
+        ensures started { is_shared ≡ false → stands self.new (place_of running.now) number peer.now stage.Started };
 
     /// Notes that the child of an allowed connection was not started, for this reason. The connection is gone.
     fn start_failed(&mut self, place: Self::Place, number: u64, peer: &Peer, refusal: NotStarted)
         requires stands { stands self.old (index place) number peer.now (stage.Decided Allow) }
         ensures told { tells self.old (StartFailed number refusal.fault) self.new }
-        ensures gone { is_gone self.new number }
-        ensures keeps { found self.new ≡ found self.old };
+        ensures gone { is_gone self.new number };
 
     /// Notes that a connection is given up before a child was started, for this cause. It is gone.
     fn dropped(&mut self, place: Self::Place, number: u64, peer: &Peer, cause: DropCause)
         requires stands { IsUnstarted (stands self.old (index place) number peer.now) }
         ensures told { tells self.old (Dropped number cause) self.new }
         ensures gone { is_gone self.new number }
-        ensures keeps { found self.new ≡ found self.old }
         ensures failures { failures self.new ≡ failures self.old };
 }

@@ -5,7 +5,6 @@ ghost use Rattle.rule_lookup.specs.declared.instr.Verdict.TheVariants.{Allow, De
 ghost use Rattle.child_jobs.specs.declared.outcome.DropCause.TheVariants as cause;
 ghost use Rattle.server_events.specs.declared.event.Event.TheVariants.{Dropped, StartFailed};
 ghost use Rattle.server_events.specs.declared.event.Stage.TheVariants as stage;
-ghost use Rattle.one_connection.specs.Openings.{WasFound};
 ghost use Rattle.one_connection.specs.Servings.{ComesAt, Drops, FailsFor, Greets, HasCome, IfDropped, IfRunning, IfStartFailed, IsChild, IsDecidedAs, IsLastTold, IsPrepared, IsRefused, MayStart, OnDenied, RefusesBy, UnlessRunning, cause_of, is_cut_short, last_event};
 ghost use Rattle.one_connection.specs.Unstarted.{IsUnstarted, StandsUndenied};
 
@@ -74,10 +73,10 @@ fn prepare<L: Assumptions, D: Agent<L, Place = Place<L>>>(
     plan: &Plan,
 ) -> Result<Prepared, DropCause>
     requires stands { D.stands agent.old place.now serial peer.now stage.Admitted }
-    ensures prepared { IfOk result (λ made. IsPrepared (WasFound (D.found agent.new) (D.finds agent.old)) D.honest D.sound
-        peer.now local.now plan.now made.verdict made.environment) }
+    ensures prepared { IfOk result (λ made. IsPrepared (D.finds agent.old) D.honest D.sound peer.now local.now plan.now
+        made.verdict made.environment) }
     ensures decided { IfOk result (λ made. D.stands agent.new place.now serial peer.now (stage.Decided made.verdict)) }
-    ensures dropped { IfErr result (Drops (FailsFor (WasFound (D.found agent.new) (D.finds agent.old)) D.honest D.sound peer.now)
+    ensures dropped { IfErr result (Drops (FailsFor (D.finds agent.old) D.honest D.sound peer.now)
         D.is_shared (D.failures agent.old) (D.failures agent.new) []) }
     ensures undenied { OnErr result (StandsUndenied (D.stands agent.new place.now serial peer.now)) }
     ensures came { HasCome D.still D.tells_by serial agent.old agent.new }
@@ -110,7 +109,6 @@ fn give_up<L: Assumptions, D: Agent<L, Place = Place<L>>>(
     requires stands { IsUnstarted (D.stands agent.old place serial peer.now) }
     ensures told { D.tells agent.old (Dropped serial cause) agent.new }
     ensures gone { D.is_gone agent.new serial }
-    ensures keeps { D.found agent.new ≡ D.found agent.old }
     ensures failures { D.failures agent.new ≡ D.failures agent.old }
 {
     agent.dropped(place, serial, peer, cause);
@@ -128,7 +126,6 @@ fn tell_failure<L: Assumptions, D: Agent<L, Place = Place<L>>>(
     requires stands { D.stands agent.old place serial peer.now (stage.Decided Allow) }
     ensures told { D.tells agent.old (StartFailed serial refusal.fault) agent.new }
     ensures gone { D.is_gone agent.new serial }
-    ensures keeps { D.found agent.new ≡ D.found agent.old }
 {
     agent.start_failed(place, serial, peer, refusal);
 }
@@ -155,7 +152,6 @@ fn run<L: Assumptions, D: Agent<L, Place = Place<L>>, S: Launcher>(
     ensures told { D.tells agent.old (last_event serial result) agent.new }
     ensures comes { ComesAt result (stage.Decided Allow) }
     ensures gone { UnlessRunning result (D.is_gone agent.new serial) }
-    ensures keeps { D.found agent.new ≡ D.found agent.old }
     ensures neither { OnDenied result ⊥ × IfDropped result (λ why. ⊥) }
 {
     match start(alloc, place, launcher, plan.program(), environment) {
@@ -173,8 +169,8 @@ fn run<L: Assumptions, D: Agent<L, Place = Place<L>>, S: Launcher>(
 /// Serves a connection that was let in, up to the start of its child (UCSPI-1996; the page of `tcpserver`). It writes
 /// the plan's banner, opens the rules, decides, and starts the plan's program with the environment of that decision.
 /// All connections share the plan. `peer` and `local` are the two ends of this one. The agent is that of this
-/// connection, and keeps what an opening of the rules found. What is written to its launcher the client is sent: the
-/// banner goes to `greeter`, a second launcher of this connection, which starts nothing.
+/// connection. What is written to its launcher the client is sent: the banner goes to `greeter`, a second launcher of
+/// this connection, which starts nothing.
 ///
 /// The answer says how it went, and is the last event that the agent told. `Running` only if the decision by what was
 /// found is to allow: the child's program is the plan's, and its environment that of the decision. `Denied` only if
@@ -198,15 +194,14 @@ pub fn serve_one<L: Assumptions, D: Agent<L, Place = Place<L>>, S: Launcher + Wr
     // so the launcher is asked for nothing but the decided program
     requires may { MayStart (D.finds agent.old) D.honest D.sound peer.now local.now plan.now (S.may launcher) }
     // the decided program, with the decided environment
-    ensures running { IfRunning result (λ child. IsChild (WasFound (D.found agent.new) (D.finds agent.old)) D.honest D.sound
-        peer.now local.now plan.now (S.Job.program (job_of child)) (S.Job.environment (job_of child))) }
+    ensures running { IfRunning result (λ child. IsChild (D.finds agent.old) D.honest D.sound peer.now local.now plan.now
+        (S.Job.program (job_of child)) (S.Job.environment (job_of child))) }
     ensures started { IfRunning result (λ child. (place_of child ≡ place)
         × (D.is_shared ≡ false → D.stands agent.new place serial peer.now stage.Started)) }
-    ensures denied { OnDenied result
-        (IsDecidedAs (WasFound (D.found agent.new) (D.finds agent.old)) D.honest D.sound peer.now Deny) }
-    ensures start_failed { IfStartFailed result (IsRefused (WasFound (D.found agent.new) (D.finds agent.old)) D.honest D.sound
-        peer.now local.now plan.now (S.refuses launcher)) }
-    ensures dropped { IfDropped result (Drops (FailsFor (WasFound (D.found agent.new) (D.finds agent.old)) D.honest D.sound peer.now)
+    ensures denied { OnDenied result (IsDecidedAs (D.finds agent.old) D.honest D.sound peer.now Deny) }
+    ensures start_failed { IfStartFailed result (IsRefused (D.finds agent.old) D.honest D.sound peer.now local.now
+        plan.now (S.refuses launcher)) }
+    ensures dropped { IfDropped result (Drops (FailsFor (D.finds agent.old) D.honest D.sound peer.now)
         D.is_shared (D.failures agent.old) (D.failures agent.new) plan.now.banner) }
     // the events that were told, in order; the last one is the answer, and the stage in which it came
     ensures told { IsLastTold (HasCome D.still D.tells_by serial agent.old) D.tells
@@ -214,6 +209,7 @@ pub fn serve_one<L: Assumptions, D: Agent<L, Place = Place<L>>, S: Launcher + Wr
     ensures gone { UnlessRunning result (D.is_gone agent.new serial) }
     // only the banner is written, and before all else
     ensures greeted { Greets (S.contents greeter.old) (S.contents greeter.new) plan.now.banner (is_cut_short result) }
+    ensures first { IfDropped result (λ why. why ≡ cause.Banner → D.tells agent.old (Dropped serial why) agent.new) }
 {
     if let Err(cause) = greet(greeter, plan.banner()) {
         give_up(agent, place, serial, peer, cause);

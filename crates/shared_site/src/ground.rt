@@ -11,7 +11,7 @@ pub trait Ground {
     /// The ledger of the places of connections, with what is assumed of the rules.
     type Places: Assumptions;
 
-    /// The ledger of the callers, and how many there are.
+    /// The ledger of the callers.
     type Callers: Callers;
 
     /// A rules file that a connection has opened.

@@ -4,9 +4,8 @@
 //! `Site::close`. A turn is the yard's call of its name if its event is in turn and there is memory; otherwise it is an
 //! error that changes nothing but the speaker. If the yard is a server's and had no event before, its events are a run
 //! (`Guarded`, `Site::close`): what turns tell, one after another. Only laws and tests make a `Receipt` of the evidence
-//! that a turn answers: see `whole_yard`, which audits receipts. A `Refusal`, and `AllRetired`, are made only of a yard
-//! that is so. Nothing is proved about `None` of `Site::retired`. That threads get the lock and go on is tested
-//! (`test_sites`).
+//! that a turn answers: see `whole_yard`, which audits receipts. A `Refusal` is made only of a yard that is so. That
+//! threads get the lock and go on is tested (`test_sites`).
 #![tactic(auto)]
 
 pub mod caller;
@@ -14,7 +13,7 @@ pub mod ground;
 pub mod receipt;
 pub mod site;
 
-pub use caller::{BackCallers, Caller, Callers, NewCallers};
+pub use caller::{Caller, Callers};
 pub use ground::{CallerOf, Ground, YardOf};
 pub use receipt::{Made, OutOfTurn, Receipt, Refusal};
-pub use site::{AllRetired, Site, Turn};
+pub use site::{Site, Turn};

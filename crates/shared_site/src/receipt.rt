@@ -29,7 +29,7 @@ impl EventSnapshot {
     }
 }
 
-/// Evidence that a caller made an event, at a position of the history. Only `turn::made` makes one, and only of an
+/// Evidence that a caller made an event, at a position of the history. Only `site::made` makes one, and only of an
 /// event that this caller has just made. Whoever audits makes a receipt of it.
 #[derive(Drop)]
 pub struct Made {
@@ -75,8 +75,7 @@ pub struct Receipt {
     pub(crate) seal: (),
 }
 
-/// Evidence that an event was out of turn: a caller asked for it, and it did not happen. Only the calls of `turns` make
-/// one.
+/// Evidence that an event was out of turn: a caller asked for it, and it did not happen. Only turns make one.
 #[derive(Drop)]
 pub struct OutOfTurn {
     pub(crate) asked: EventSnapshot,

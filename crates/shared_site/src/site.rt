@@ -18,41 +18,21 @@ ghost use Rattle.server_yard.specs.Rolls.{IsQuiet};
 ghost use Rattle.server_yard.specs.Seating.{GivesSeat, IsAddressFull, IsSpent, KeepsSerials};
 ghost use Rattle.server_yard.specs.Yards.{HasRun, IsRunOf, IsSameBeside, yard_books, yard_roll, yard_rules, yard_seat, yard_server};
 ghost use Rattle.server_yard.specs.declared.register.AdmitFault.TheVariants.{Full, FullForAddress, Spent};
-ghost use Rattle.shared_site.specs.Callers.{CountsForIts, back_lacking, back_share, new_count};
+ghost use Rattle.shared_site.specs.Callers.{CountsForIts};
 ghost use Rattle.shared_site.specs.Receipts.{AdmitsOrNot, CountsAtMostOne, MakesOrNot, receipt_at, receipt_of, refused_as, shown_event};
 ghost use Rattle.shared_site.specs.Turns.{Answers, IsAt, IsLastOf, IsPassedOver, Makes, MayBeDecided, NotesAs, NotesBy, OpensBy, spoken_by, told_if_admitted, told_if_made, told_if_opened, told_then};
-ghost use Rattle.std.specs.Prelude.{◌≡◌, ◌+◌, ◌≤◌, ◌↔◌, ⊤, Bool, Err, IfErr, IfOk, IfSome, IsOk, IsTrue, List, None, OnErr, OnOk, Option, Some, ℕ, false, is_ok, is_some, length, true};
+ghost use Rattle.std.specs.Prelude.{◌≡◌, ◌+◌, ◌↔◌, ⊤, Bool, Err, IfErr, IfOk, IfSome, IsOk, IsTrue, List, None, OnErr, OnOk, Option, Some, ℕ, false, is_ok, is_some, length, true};
 ghost use Rattle.server_events.specs.declared.event.Event.TheVariants as event;
 
-use crate::caller::{BackCallers, NewCallers};
 use crate::ground::{CallerOf, Ground, YardOf};
 use crate::receipt::{EventSnapshot, Made, OutOfTurn, Refusal};
 use child_jobs::{Job, Place, Running};
 use rule_lookup::{Decision, Peer, Verdict};
 use server_events::{Event, Stage};
-use server_yard::{Assumptions, Finding, Leaving, Pass};
-use std::marker::PhantomData;
+use server_yard::{Finding, Leaving, Pass};
 use std::snapshot::Snapshot;
-use std::sync::ledger::{Blank, Book};
+use std::sync::ledger::{Blank, Book, Share};
 use std::sync::{Mutex, Wait};
-
-/// Evidence that all places of this ledger are retired, so that none will ever be free. Only a yard that is so makes
-/// it.
-#[derive(Drop)]
-pub struct AllRetired<L: Assumptions> {
-    ledger: PhantomData<L>,
-}
-
-impl<L: Assumptions> AllRetired<L> {
-    // That those of this yard are.
-    fn of<G: Ground<Places = L>>(_yard: &YardOf<G>) -> AllRetired<L>
-        requires retired { (yard_server _yard.now).limit ≤ (yard_books _yard.now).report.retired }
-    {
-        AllRetired {
-            ledger: PhantomData,
-        }
-    }
-}
 
 // A yard, and how many events it had since the site was made.
 #[derive(Drop)]
@@ -90,19 +70,20 @@ pub struct Site<G: Ground> {
 }
 
 impl<G: Ground> Site<G> {
-    /// A site with this many callers, numbered from 1. `blank` has as many parts.
-    pub fn new(blank: Blank, yard: YardOf<G>, callers: u64) -> (Site<G>, NewCallers<G::Callers>)
+    /// A site, and the share of all its callers, which have made no event. Each caller gets a part of it.
+    pub fn new(blank: Blank, yard: YardOf<G>) -> (Site<G>, Share<G::Callers>)
         requires name { blank.name ≡ G.Callers.name }
-        requires parts { (blank.parts ≡ G.Callers.parts) × (blank.parts ≡ callers) × (G.Callers.all ≡ callers) }
+        requires parts { blank.parts ≡ G.Callers.parts }
         requires before { G.Callers.before ≡ (yard_books yard).count }
-        ensures callers { new_count result.1 ≡ callers }
+        ensures parts { result.1.parts ≡ G.Callers.parts }
+        ensures idle { result.1.amount ≡ 0 }
     {
         yard.unbegun();
         let (events, share) = blank.open::<G::Callers>();
         let site = Site {
             guarded: Mutex::new(Guarded { yard, events }),
         };
-        (site, NewCallers::of(share, callers))
+        (site, share)
     }
 
     /// Makes a turn for a caller. It waits for the lock, runs the turn on the yard with the caller's number, and lets
@@ -115,42 +96,19 @@ impl<G: Ground> Site<G> {
         self.guarded.lock(rt).turn(caller, turn)
     }
 
-    /// Evidence that all places are retired, if they are.
-    pub fn retired<R: Wait>(&self, rt: &R) -> Option<AllRetired<G::Places>> {
-        let guarded = self.guarded.lock(rt);
-        if guarded.yard.journal().report().retired < guarded.yard.limit() {
-            return None;
-        }
-        Some(AllRetired::of::<G>(&guarded.yard))
-    }
-
-    /// The yard, once all callers are back. Its history has as many events as when the site was made, and those of all
-    /// shares. If it is a server's and had no event before, there is a run that led to it, of which
-    /// `server_yard::laws::whole_run` speaks: what its turns told, one after another.
-    ///
-    /// # Errors
-    /// Some caller is lacking. The site and the callers are handed back.
-    pub fn close(
-        self,
-        callers: BackCallers<G::Callers>,
-    ) -> Result<YardOf<G>, (Site<G>, BackCallers<G::Callers>)>
-        requires parts { G.Callers.all ≡ G.Callers.parts }
-        ensures all { IsOk result ↔ (back_lacking callers ≡ 0) }
-        ensures history { IfOk result (λ yard. (yard_books yard).count ≡ G.Callers.before + back_share callers) }
-        ensures ran { IfOk result (λ yard. G.is_servers ≡ true → G.Callers.before ≡ 0 → HasRun yard) }
-        ensures back { IfErr result (λ r. (r.0 ≡ self) × (r.1 ≡ callers)) }
+    /// The yard, for the share of all callers: none of them makes an event any more. Its history has as many events as
+    /// when the site was made, and those of the share. If it is a server's and had no event before, there is a run that
+    /// led to it, of which `server_yard::laws::whole_run` speaks: what its turns told, one after another.
+    pub fn close(self, all: Share<G::Callers>) -> YardOf<G>
+        requires all { all.parts ≡ G.Callers.parts }
+        ensures history { (yard_books result).count ≡ G.Callers.before + all.amount }
+        ensures ran { G.is_servers ≡ true → G.Callers.before ≡ 0 → HasRun result }
     {
-        if callers.lacking != 0 {
-            return Err((self, callers));
-        }
         let Site { guarded } = self;
         let Guarded { yard, mut events } = guarded.into_inner();
-        let BackCallers {
-            lacking: _,
-            share: mut all,
-        } = callers;
+        let mut all = all;
         events.audit(&mut all);
-        Ok(yard)
+        yard
     }
 }
 

@@ -1,8 +1,8 @@
 //! The door: the value under whose lock connections are accepted and let in.
 ghost use Rattle.std.specs.Option.{ForSome};
 ghost use Rattle.std.specs.Prelude.{◌≡◌, ◌≢◌, ◌⊎◌, ◌+◌, ◌≤◌, None, Some, true, false, IfSome, IsTrue, min};
-ghost use Rattle.tcp_connections.specs.Admissions.{EndsAtCount, LetsInAtMost};
-ghost use Rattle.tcp_connections.specs.declared.serving.ServeEnd.TheVariants.{AcceptFaults, Count, NoPlaces, Spent};
+ghost use Rattle.tcp_connections.specs.Admissions.{EndsAtCount, LetsInAtMost, lacks};
+ghost use Rattle.tcp_connections.specs.declared.serving.ServeEnd.TheVariants.{AcceptFaults, Count, Spent};
 
 use crate::accepting::{AcceptError, Acceptor};
 use crate::means::{Permit, pause_after};
@@ -47,7 +47,7 @@ impl Faults {
     /// None came: there is too little for one connection. The system's number says of what.
     pub(crate) fn of_too_little(supply: &Supply) -> Faults
         ensures none { result.count ≡ 0 }
-        ensures told { result.last ≢ None }
+        ensures told { result.last ≡ Some (lacks supply.now) }
     {
         let lacks = if supply.descriptors < supply.to_begin {
             TOO_MANY_OPEN_FILES
@@ -58,24 +58,6 @@ impl Faults {
             last: Some(lacks),
             ..Faults::none()
         }
-    }
-
-    // One more came.
-    fn add(&mut self, error: AcceptError)
-        ensures one_more { self.new.count ≡ min 100 (self.old.count + 1) }
-        ensures last { self.new.last ≡ error.number }
-    {
-        self.count = MOST.min(self.count.saturating_add(1));
-        self.last = error.number;
-    }
-
-    // A connection came.
-    fn end(&mut self)
-        ensures none { self.new.count ≡ 0 }
-        ensures last { self.new.last ≡ self.old.last }
-    {
-        self.count = 0;
-        self.lacking = 0;
     }
 }
 
@@ -94,8 +76,6 @@ pub(crate) struct Door<A, V: Serving> {
     ghost endless: { left ≡ None → V.count ≡ None },
     ghost otherwise: { end ≢ Some Count },
     ghost by_faults: { end ≡ Some AcceptFaults → faults.count ≡ 100 },
-    ghost by_places: { end ≡ Some NoPlaces → IsTrue (V.all_retired entrance) },
-    ghost by_numbers: { end ≡ Some Spent → IsTrue (V.is_spent entrance) },
 }
 
 impl<A: Acceptor<Came = V::Came> + Drop, V: Serving> Door<A, V> {
@@ -142,7 +122,8 @@ impl<A: Acceptor<Came = V::Came> + Drop, V: Serving> Door<A, V> {
         ensures anew { self.new.faults.count ≡ 0 }
         ensures last { self.new.faults.last ≡ self.old.faults.last }
     {
-        self.faults.end();
+        self.faults.count = 0;
+        self.faults.lacking = 0;
         match server.admit(&mut self.entrance, came) {
             Ok(work) => {
                 if let Some(left) = self.left {
@@ -172,26 +153,11 @@ impl<A: Acceptor<Came = V::Came> + Drop, V: Serving> Door<A, V> {
         ensures one_more { self.new.faults.count ≡ min 100 (self.old.faults.count + 1) }
         ensures last { self.new.faults.last ≡ error.number }
     {
-        self.faults.add(error);
+        self.faults.count = MOST.min(self.faults.count.saturating_add(1));
+        self.faults.last = error.number;
         if !self.is_over() && self.faults.count == MOST {
             self.end = Some(ServeEnd::AcceptFaults);
         }
-    }
-
-    /// Ends the server, unless it has ended: all places are retired, or else there is no memory for it or no thread that
-    /// serves anybody.
-    pub fn give_up(&mut self, server: &V)
-        ensures kept { self.old.end ≢ None → self.new.end ≡ self.old.end }
-        ensures same { self.new.faults ≡ self.old.faults }
-    {
-        if self.is_over() {
-            return;
-        }
-        self.end = if server.has_places(&mut self.entrance) {
-            Some(ServeEnd::OutOfMemory)
-        } else {
-            Some(ServeEnd::NoPlaces)
-        };
     }
 
     /// How the server ended, its entrance, and the faults of accepting that came last. The acceptor is dropped.
@@ -201,8 +167,6 @@ impl<A: Acceptor<Came = V::Came> + Drop, V: Serving> Door<A, V> {
         ensures reached { V.count ≡ Some (V.let_in result.1) → (result.0 ≡ Count) ⊎ (result.0 ≡ Spent) }
         ensures kept { result.2 ≡ self.faults }
         ensures faults { result.0 ≡ AcceptFaults → result.2.count ≡ 100 }
-        ensures places { result.0 ≡ NoPlaces → IsTrue (V.all_retired result.1) }
-        ensures spent { result.0 ≡ Spent → IsTrue (V.is_spent result.1) }
     {
         let Door {
             acceptor,
@@ -215,7 +179,7 @@ impl<A: Acceptor<Came = V::Came> + Drop, V: Serving> Door<A, V> {
         let end = match (end, left) {
             (Some(ServeEnd::Spent), _) => ServeEnd::Spent,
             (_, Some(0)) => ServeEnd::Count,
-            (end, _) => end.unwrap_or(ServeEnd::OutOfMemory),
+            (end, _) => end.unwrap_or(ServeEnd::Exhausted),
         };
         (end, entrance, faults)
     }

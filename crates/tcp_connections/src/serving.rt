@@ -1,20 +1,18 @@
 //! What lets connections in and serves them.
-ghost use Rattle.std.specs.Prelude.{◌≡◌, ℕ, Bool, Option, false, IsTrue, IfOk};
-ghost use Rattle.tcp_connections.specs.Admissions.{LetsIn, OnSpent};
+ghost use Rattle.std.specs.Prelude.{◌≡◌, ℕ, Bool, Option, IfOk};
+ghost use Rattle.tcp_connections.specs.Admissions.{LetsIn};
 
 /// How a server ended.
 #[derive(Clone, Copy)]
 pub enum ServeEnd {
     /// It let in as many connections as it was to serve.
     Count,
-    /// The last serial number, or the last number of an event, was used.
+    /// A connection was refused, and so would be all that follow.
     Spent,
-    /// The children of all places could not be waited for.
-    NoPlaces,
     /// A hundred faults of accepting came in succession, or there was too little for one connection from the start.
     AcceptFaults,
-    /// There was no memory for the server itself, or no thread that serves anybody.
-    OutOfMemory,
+    /// Nobody more can be served: all places are retired, or there was no memory or no thread for it.
+    Exhausted,
 }
 
 /// That a connection was refused.
@@ -22,7 +20,7 @@ pub enum ServeEnd {
 pub enum Refused {
     /// Only this one was: others may be let in.
     Once,
-    /// This one was, and so are all that follow: the last serial number, or the last number of an event, was used.
+    /// This one was, and so are all that follow.
     Spent,
 }
 
@@ -52,12 +50,6 @@ pub trait Serving {
     /// How many an entrance let in.
     ghost let_in: { Self.Entrance → ℕ };
 
-    /// It saw that all places are retired.
-    ghost all_retired: { Self.Entrance → Bool };
-
-    /// It saw that the last serial number was given, or the last number of an event.
-    ghost is_spent: { Self.Entrance → Bool };
-
     /// Whether a connection that is over was retired.
     ghost retired: { Self.Over → Bool };
 
@@ -67,13 +59,7 @@ pub trait Serving {
     /// It was refused, and is closed.
     fn admit(&self, entrance: &mut Self::Entrance, came: Self::Came) -> Result<Self::Work, Refused>
         ensures its { IfOk result (is_its self.now came) }
-        ensures came { LetsIn result (let_in entrance.old) (let_in entrance.new) }
-        ensures spent { OnSpent result (IsTrue (is_spent entrance.new)) };
-
-    /// Whether a place is free, or may become free: not all are retired.
-    fn has_places(&self, entrance: &mut Self::Entrance) -> bool
-        ensures retired { result ≡ false → IsTrue (all_retired entrance.new) }
-        ensures nobody { let_in entrance.new ≡ let_in entrance.old };
+        ensures came { LetsIn result (let_in entrance.old) (let_in entrance.new) };
 
     /// Serves a connection up to the start of its program.
     ///

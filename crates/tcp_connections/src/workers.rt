@@ -1,8 +1,8 @@
 //! Workers: each lets one connection after another in, and serves it up to the start of its program or to its end.
-ghost use Rattle.std.specs.Prelude.{◌≡◌, ◌⊎◌, IsTrue, Some};
+ghost use Rattle.std.specs.Prelude.{◌≡◌, ◌⊎◌, false, IsTrue, Some};
 ghost use Rattle.std.specs.Thread.{IsSend, IsSync};
-ghost use Rattle.tcp_connections.specs.Admissions.{EndsAtCount, FailedToAccept, LetsInAtMost, suffices};
-ghost use Rattle.tcp_connections.specs.declared.serving.ServeEnd.TheVariants.{AcceptFaults, Count, NoPlaces, Spent};
+ghost use Rattle.tcp_connections.specs.Admissions.{EndsAtCount, FailedToAccept, LetsInAtMost, lacks, suffices};
+ghost use Rattle.tcp_connections.specs.declared.serving.ServeEnd.TheVariants.{AcceptFaults, Count, Spent};
 
 use crate::accepting::{AcceptError, Acceptor};
 use crate::door::{Door, Faults};
@@ -52,8 +52,8 @@ where
     /// whenever none waits for a connection.
     ///
     /// The count begins at 0, since nobody was let in by `entrance` before. By faults of accepting it ends only if a
-    /// hundred came since the last connection, or if `supply` doesn't suffice for one connection. For want of places it
-    /// ends only if all were seen retired, and for want of numbers only if the last one was seen given.
+    /// hundred came since the last connection, or if `supply` doesn't suffice for one connection: then the last fault is
+    /// that of what there is too little of.
     pub fn serve_through(
         rt: &'a R,
         alloc: Global,
@@ -72,8 +72,7 @@ where
         ensures reached { IsTrue (suffices supply) → count ≡ Some (V.let_in result.1)
             → (result.0 ≡ Count) ⊎ (result.0 ≡ Spent) }
         ensures faults { result.0 ≡ AcceptFaults → FailedToAccept (suffices supply) result.2.count }
-        ensures places { result.0 ≡ NoPlaces → IsTrue (V.all_retired result.1) }
-        ensures spent { result.0 ≡ Spent → IsTrue (V.is_spent result.1) }
+        ensures lacking { suffices supply ≡ false → result.2.last ≡ Some (lacks supply) }
     {
         if !supply.suffices() {
             drop(acceptor);
@@ -117,8 +116,7 @@ where
         );
     }
 
-    // Makes one more worker whenever none is at the door, until nobody more can be let in. Then the server ends, if it has
-    // not before.
+    // Makes one more worker whenever none is at the door, until nobody more can be let in.
     fn make_workers<'s, 'e>(&'s self, scope: &'s Scope<'s, &'e ()>) {
         for _ in self.rt.forever() {
             if !self.means.wait_for_want(self.rt) {
@@ -126,9 +124,7 @@ where
             }
             self.make_worker(scope);
         }
-        let mut door = self.door.lock(self.rt);
-        door.give_up(self.server);
-        self.end(&mut door);
+        self.end(&mut self.door.lock(self.rt));
     }
 
     // Makes a worker, if there is a thread for it and what its connection would take beside those that begin now.

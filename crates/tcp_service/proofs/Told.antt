@@ -1,9 +1,7 @@
 -- What was told of the end of a child, or of a connection without one, is as it was.
 use Rattle.std.proofs.Common.{◌≡◌, ◌∙◌, ◌⊎◌, ap, refl, subst, ℕ, ◌-◌, ◌^◌, Bool, true, Option, Some, Result, Ok, Err, inl, inr}
 use Rattle.std.specs.Prelude.{IfOk, OnErr}
-use mathlib.Core.Logic.{∥∥₁_map}
 use Rattle.child_jobs.specs.Plans.{PlanText}
-use Rattle.child_jobs.specs.Programs.{ProgramText}
 use Rattle.rule_lookup.specs.Peers.{Client}
 use Rattle.child_jobs.specs.declared.outcome.DropCause.{DropCause}
 use Rattle.child_jobs.specs.declared.outcome.DropCause.TheVariants as cause
@@ -11,14 +9,13 @@ use Rattle.child_jobs.specs.declared.outcome.Exit.{Exit}
 use Rattle.child_jobs.specs.declared.outcome.StartFault.{StartFault}
 use Rattle.server_events.specs.declared.event.Event.{Event}
 use Rattle.server_events.specs.declared.event.Event.TheVariants.{Dropped, Ended, Retired, StartFailed}
-use Rattle.one_connection.specs.Openings.{Opening, WasFound}
-use Rattle.one_connection.specs.Servings.{Drops, FailsFor, IfDropped, IfStartFailed, IsChild, IsDecidedAs, IsRefused, OnDenied, last_event}
+use Rattle.one_connection.specs.Openings.{Opening}
+use Rattle.one_connection.specs.Servings.{Drops, FailsFor, IfDropped, IfStartFailed, IsDecidedAs, IsRefused, OnDenied, last_event}
 use Rattle.one_connection.specs.declared.serving.Served.{Served}
 use Rattle.rule_lookup.specs.declared.instr.Verdict.TheVariants.{Deny}
 use Rattle.child_jobs.specs.Ends.{LocalEnd}
 use Rattle.tcp_connections.specs.Rounds.{AllFail, EndsAs, FailsToWait, Kills, OneEnds, rounds}
-use Rattle.tcp_service.specs.Lives.{EndsWithReason, IsDecidedChild, IsEndOfChild, IsOwnChild, Refuses}
-use Rattle.child_jobs.specs.Variables.{Variables}
+use Rattle.tcp_service.specs.Lives.{EndsWithReason, IsEndOfChild, Refuses}
 
 -- by how the waits for it went, and what was told of that to an agent of the same connection
 pub end_told : {P C J : Type 0} (waited : Result (P × Exit) C) (kills : Kills J) (fails : FailsToWait J) (ends : EndsAs J)
@@ -35,64 +32,42 @@ end_told (Err child) kills fails ends job serial own last then same is none its 
 
 -- ---- a connection was served, and no program of it runs
 
-module _ {L : Type 0} {J : Type 0} (finds : Opening → Type 0) (found : Option Opening) (honest sound : Bool)
+module _ {L : Type 0} {J : Type 0} (finds : Opening → Type 0) (honest sound : Bool)
     (peer : Client) (local : LocalEnd) (plan : PlanText) (refuses : Refuses) (serial : ℕ) (served : Served L J) (last : Option Event) where
   -- as its answer says, which was told last
   denied_told : served ≡ Served.Denied → last ≡ Some (last_event serial served)
-      → OnDenied served (IsDecidedAs (WasFound found finds) honest sound peer Deny)
+      → OnDenied served (IsDecidedAs finds honest sound peer Deny)
       → EndsWithReason finds honest sound peer local plan refuses serial last
   denied_told is told why = record {
-    found = found;
     event = Dropped serial cause.Denied;
     told = told ∙ ap (λ (s : Served L J). Some (last_event serial s)) is;
-    reason = (refl, inl (refl, subst (λ (s : Served L J). OnDenied s (IsDecidedAs (WasFound found finds) honest sound peer Deny)) is why));
+    reason = (refl, inl (refl, subst (λ (s : Served L J). OnDenied s (IsDecidedAs finds honest sound peer Deny)) is why));
   }
 
   refusal_told : (fault : StartFault) → served ≡ Served.StartFailed fault → last ≡ Some (last_event serial served)
-      → IfStartFailed served (IsRefused (WasFound found finds) honest sound peer local plan refuses)
+      → IfStartFailed served (IsRefused finds honest sound peer local plan refuses)
       → EndsWithReason finds honest sound peer local plan refuses serial last
   refusal_told fault is told why = record {
-    found = found;
     event = StartFailed serial fault;
     told = told ∙ ap (λ (s : Served L J). Some (last_event serial s)) is;
-    reason = (refl, subst (λ (s : Served L J). IfStartFailed s (IsRefused (WasFound found finds) honest sound peer local plan refuses)) is why);
+    reason = (refl, subst (λ (s : Served L J). IfStartFailed s (IsRefused finds honest sound peer local plan refuses)) is why);
   }
 
   drop_told : (why : DropCause) → served ≡ Served.Dropped why → last ≡ Some (last_event serial served)
-      → IfDropped served (Drops (FailsFor (WasFound found finds) honest sound peer) true (2 ^ 64 - 1) (2 ^ 64 - 1) plan.banner)
+      → IfDropped served (Drops (FailsFor finds honest sound peer) true (2 ^ 64 - 1) (2 ^ 64 - 1) plan.banner)
       → EndsWithReason finds honest sound peer local plan refuses serial last
   drop_told why is told drops = record {
-    found = found;
     event = Dropped serial why;
     told = told ∙ ap (λ (s : Served L J). Some (last_event serial s)) is;
-    reason = (refl, inr (subst (λ (s : Served L J). IfDropped s (Drops (FailsFor (WasFound found finds) honest sound peer) true (2 ^ 64 - 1) (2 ^ 64 - 1) plan.banner)) is drops));
+    reason = (refl, inr (subst (λ (s : Served L J). IfDropped s (Drops (FailsFor finds honest sound peer) true (2 ^ 64 - 1) (2 ^ 64 - 1) plan.banner)) is drops));
   }
 
   pub unserved_told : (served ≡ Served.Denied) ⊎ (((fault : StartFault) × (served ≡ Served.StartFailed fault)) ⊎ ((why : DropCause) × (served ≡ Served.Dropped why)))
       → last ≡ Some (last_event serial served)
-      → OnDenied served (IsDecidedAs (WasFound found finds) honest sound peer Deny)
-      → IfStartFailed served (IsRefused (WasFound found finds) honest sound peer local plan refuses)
-      → IfDropped served (Drops (FailsFor (WasFound found finds) honest sound peer) true (2 ^ 64 - 1) (2 ^ 64 - 1) plan.banner)
+      → OnDenied served (IsDecidedAs finds honest sound peer Deny)
+      → IfStartFailed served (IsRefused finds honest sound peer local plan refuses)
+      → IfDropped served (Drops (FailsFor finds honest sound peer) true (2 ^ 64 - 1) (2 ^ 64 - 1) plan.banner)
       → EndsWithReason finds honest sound peer local plan refuses serial last
   unserved_told (inl is) told denied refused drops = denied_told is told denied
   unserved_told (inr (inl (fault, is))) told denied refused drops = refusal_told fault is told refused
   unserved_told (inr (inr (why, is))) told denied refused drops = drop_told why is told drops
-
--- ---- a connection goes on
-
--- what a connection found is something that it may have found
-pub own_is_decided : (found : Option Opening) (finds : Opening → Type 0) (honest sound : Bool) (peer : Client) (local : LocalEnd) (plan : PlanText)
-    (program : ProgramText) (environment : Variables) → IsOwnChild found finds honest sound peer local plan program environment
-    → IsDecidedChild finds honest sound peer local plan program environment
-own_is_decided found finds honest sound peer local plan program environment own =
-    ∥∥₁_map own (λ (child : IsChild (WasFound found finds) honest sound peer local plan program environment).
-    let by = child.allowed.decided in
-    record {
-      allowed = record {
-        decision = child.allowed.decision;
-        decided = record { found = by.found; was_found = by.was_found.may_be; by_rules = by.by_rules };
-        same = child.allowed.same;
-        given = child.allowed.given;
-      };
-      planned = child.planned;
-    })

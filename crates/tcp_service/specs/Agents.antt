@@ -1,7 +1,6 @@
 -- What an agent knows of its connection by the answers of its site.
-use Rattle.std.specs.Prelude.{◌≡◌, ℕ, Bool, IsTrue, List, Option, None, Some, Result, Ok, Err, option_and_then, option_map}
+use Rattle.std.specs.Prelude.{◌≡◌, ℕ, Bool, IsTrue, List, Option, None, Some, Result, Ok, Err, option_and_then}
 use Rattle.one_connection.specs.Openings.{Opening}
-use Rattle.rule_lookup.specs.declared.decision.WhenMissing.{WhenMissing}
 use Rattle.server_events.specs.declared.event.Event.{Event}
 use Rattle.server_events.specs.declared.event.Event.TheVariants.{Opened, Decided}
 use Rattle.server_events.specs.declared.event.Stage.{Stage}
@@ -53,10 +52,6 @@ pub record IsFoundFor {H : Type 0} (met : Bool) (gives : H → Type 0) (opened :
   pub new : gives handle
   pub after : H
   pub stood : opened handle serial found.bytes after
-
--- what is decided without a file, as it was found
-abbrev pub IsMissingBy : Option Opening → WhenMissing → Type 0
-IsMissingBy found missing = option_map (λ (o : Opening). o.missing) found ≡ Some missing
 
 -- it is an answer that a turn may give, to some caller after some events
 pub record IsAnswer {T : Type 0} (answers : ℕ → ℕ → T → ℕ → Type 0) (answer : T) : Type 0 where

@@ -6,7 +6,7 @@ use Rattle.rule_lookup.specs.Peers.{Client}
 use Rattle.child_jobs.specs.declared.outcome.DropCause.TheVariants as cause
 use Rattle.child_jobs.specs.declared.outcome.NotStarted.{NotStarted}
 use Rattle.child_jobs.specs.declared.outcome.Status.{Status}
-use Rattle.one_connection.specs.Openings.{Opening, WasFound}
+use Rattle.one_connection.specs.Openings.{Opening}
 use Rattle.one_connection.specs.Servings.{Drops, FailsFor, IsChild, IsDecidedAs, IsRefused, MayStart}
 use Rattle.rule_lookup.specs.declared.instr.Verdict.TheVariants.{Deny}
 use Rattle.server_events.specs.declared.event.Event.{Event}
@@ -52,12 +52,6 @@ MayStartEach {X = X} finds honest sound plan may =
     (connection : X) (serial : ℕ) (peer : Client) (local : LocalEnd)
     → MayStart (finds serial) honest sound peer local plan (may connection)
 
--- a program that runs for a connection is so by what that connection found when it opened the rules
-abbrev pub IsOwnChild : (found : Option Opening) → (finds : Opening → Type 0) → (honest sound : Bool) → Client → LocalEnd
-    → PlanText → ProgramText → Variables → Type 0
-IsOwnChild found finds honest sound peer local plan program environment =
-    IsDecidedChild (WasFound found finds) honest sound peer local plan program environment
-
 -- how a starter may refuse a program with these variables
 abbrev pub Refuses : Type 1
 Refuses = ProgramText → Variables → NotStarted → Type 0
@@ -76,7 +70,6 @@ HasReason finds honest sound peer local plan refuses serial event = ⊥
 -- such an end was told, by what the connection found
 pub record EndsWithReason (finds : Opening → Type 0) (honest sound : Bool) (peer : Client) (local : LocalEnd)
     (plan : PlanText) (refuses : Refuses) (serial : ℕ) (last : Option Event) : Type 0 where
-  pub found : Option Opening
   pub event : Event
   pub told : last ≡ Some event
-  pub reason : HasReason (WasFound found finds) honest sound peer local plan refuses serial event
+  pub reason : HasReason finds honest sound peer local plan refuses serial event

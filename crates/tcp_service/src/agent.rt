@@ -11,13 +11,9 @@ use rule_lookup::{DecideFault, Decision, Peer};
 use server_log::{Cause, Log, Told};
 use server_yard::{Finding, Leaving, Pass};
 use shared_site::site::{Decided, Left, Opened, Retired, Started};
-use shared_site::{Ground, Made, OutOfTurn, Turn, YardOf};
+use shared_site::{Made, OutOfTurn, Turn, YardOf};
 use std::alloc::Global;
-use std::snapshot::Snapshot;
 use std::sync::Mutex;
-
-/// What a connection found when it opened the rules, if it came to that.
-pub(crate) type FoundBy<G> = Option<Snapshot<Pass<<G as Ground>::Places, <G as Ground>::File>>>;
 
 /// The agent of one connection.
 ///
@@ -31,8 +27,6 @@ pub(crate) struct LoggedAgent<'a, G: AgentGround> {
     local: &'a Local,
     // what the connection opened the rules by
     handle: Option<G::Handle>,
-    // and what it found
-    pub(crate) found: FoundBy<G>,
     // what the site answered last, which says how far the connection has come
     pub(crate) last: Option<Result<Made, OutOfTurn>>,
 }
@@ -51,7 +45,6 @@ impl<'a, G: AgentGround> AgentContext<'a, G> {
             serial,
             local,
             handle: None,
-            found: None,
             last: None,
         }
     }
@@ -59,7 +52,7 @@ impl<'a, G: AgentGround> AgentContext<'a, G> {
 
 impl<G: AgentGround> LoggedAgent<'_, G> {
     ghost use Rattle.std.specs.Prelude.{◌≡◌, ◌-◌, ◌^◌, Some, true, IfErr, IfOk, OnErr, is_some};
-    ghost use Rattle.one_connection.specs.Openings.{FailsToOpen, kept_opening, opening_of};
+    ghost use Rattle.one_connection.specs.Openings.{FailsToOpen};
     ghost use Rattle.server_events.specs.declared.event.Event.TheVariants as event;
     ghost use Rattle.server_yard.specs.Passes.{finding_file, pass_file, pass_serial};
     ghost use Rattle.tcp_service.specs.Agents.{IsAnswer, asked, made};
@@ -98,8 +91,6 @@ impl<G: AgentGround> LoggedAgent<'_, G> {
     ) -> Result<Pass<G::Places, G::File>, DropCause>
         ensures its { IfOk result (λ pass. pass_serial pass ≡ serial) }
         ensures file { IfOk result (λ pass. pass_file pass ≡ finding_file finding) }
-        ensures keeps { IfOk result (λ pass.
-            kept_opening G.File.bytes self.new.found ≡ Some (opening_of G.File.bytes pass)) }
         ensures told { IfOk result (λ pass.
             made self.new.last ≡ Some (event.Opened serial (is_some (pass_file pass)))) }
         ensures refused { OnErr result (self.new.last ≡ self.old.last) }
@@ -109,7 +100,6 @@ impl<G: AgentGround> LoggedAgent<'_, G> {
         let turn = Opened::<G> { serial, finding };
         match self.turn(turn) {
             Some((pass, made)) => {
-                self.found = Some(Snapshot::of(&pass));
                 self.last = Some(Ok(made));
                 Ok(pass)
             }
@@ -166,12 +156,12 @@ impl<G: AgentGround> LoggedAgent<'_, G> {
 }
 
 impl<G: AgentGround> Agent<G::Places> for LoggedAgent<'_, G> {
-    ghost use Rattle.std.specs.Prelude.{◌≡◌, ◌-◌, ◌^◌, true, Some, IfOk, IfErr, OnOk, OnErr};
-    ghost use Rattle.one_connection.specs.Openings.{Decides, FailsToDecide, RefusesDecision, kept_opening, opening_of};
+    ghost use Rattle.std.specs.Prelude.{◌≡◌, ◌-◌, ◌^◌, ⊤, true, Some, IfOk, IfErr, OnOk, OnErr};
+    ghost use Rattle.one_connection.specs.Openings.{Decides, FailsToDecide, RefusesDecision, opening_of};
     ghost use Rattle.server_events.specs.declared.event.Event.TheVariants as event;
     ghost use Rattle.server_events.specs.declared.event.Stage.TheVariants as stage;
     ghost use Rattle.server_yard.specs.Passes.{IsDecidedBy, pass_missing, pass_serial};
-    ghost use Rattle.tcp_service.specs.Agents.{IsFoundFor, IsGoneBy, IsMissingBy, StandsBy, asked};
+    ghost use Rattle.tcp_service.specs.Agents.{IsFoundFor, IsGoneBy, StandsBy, asked};
 
     type Place = Place<G::Places>;
 
@@ -194,15 +184,13 @@ impl<G: AgentGround> Agent<G::Places> for LoggedAgent<'_, G> {
     ghost finds = { λ agent.
         IsFoundFor G.Places.met (G.Rules.gives agent.context.now.rules.now) G.Handle.opened agent.serial };
 
-    ghost found = { λ agent. kept_opening G.File.bytes agent.found };
-
     ghost tells = { λ _ event after. asked after.last ≡ Some event };
 
     ghost tells_by = { λ _ _ event after. asked after.last ≡ Some event };
 
     ghost still = { λ agent after. after.last ≡ agent.last };
 
-    ghost is_missing = { λ agent missing. IsMissingBy (kept_opening G.File.bytes agent.found) missing };
+    ghost is_missing = { λ _ _. ⊤ };
 
     ghost failures = { λ _. 2 ^ 64 - 1 };
 

@@ -1,10 +1,9 @@
 //! How a connection that was accepted is let in: named and counted.
-ghost use Rattle.std.specs.Prelude.{◌≡◌, ◌-◌, ◌^◌, ⊤, IfSome, IsTrue, is_some};
-ghost use Rattle.server_yard.specs.declared.register.AdmitFault.TheVariants.{Spent};
+ghost use Rattle.std.specs.Prelude.{◌≡◌, ⊤, IfSome};
 ghost use Rattle.shared_site.specs.Callers.{caller_share};
-ghost use Rattle.shared_site.specs.Receipts.{AdmitsOrNot, receipt_of, refusal_fault};
+ghost use Rattle.shared_site.specs.Receipts.{AdmitsOrNot};
 ghost use Rattle.shared_site.specs.Turns.{told_if_admitted};
-ghost use Rattle.tcp_connections.specs.Admissions.{LetsIn, OnSpent};
+ghost use Rattle.tcp_connections.specs.Admissions.{LetsIn};
 ghost use Rattle.tcp_connections.specs.Names.{client_at, local_at};
 ghost use Rattle.tcp_service.specs.Lives.{AdmitsOwn};
 
@@ -13,62 +12,12 @@ use crate::server::AgentContext;
 use child_jobs::{DropCause, Local, Place};
 use rule_lookup::Peer;
 use server_log::{Log, Told};
-use server_yard::{AdmitFault, Assumptions, Leaving};
+use server_yard::{AdmitFault, Leaving};
 use shared_site::site::{Admit, Left};
-use shared_site::{AllRetired, CallerOf, Ground, Made, Refusal, Turn, YardOf};
+use shared_site::{CallerOf, Ground, Made, Refusal, Turn, YardOf};
 use std::alloc::Global;
 use std::sync::Mutex;
 use tcp_connections::{Accepted, HostNames, Refused};
-
-/// Evidence that no number is left, of a connection or of an event.
-#[derive(Drop)]
-pub struct NoNumbers {
-    // this field is private, so that nobody else makes one
-    seal: (),
-}
-
-impl NoNumbers {
-    // A site has let nobody in, since the last serial number was given.
-    fn of_refusal(_refusal: &Refusal) -> NoNumbers
-        requires spent { refusal_fault _refusal.now ≡ Spent }
-    {
-        NoNumbers { seal: () }
-    }
-
-    // An event got the last number.
-    fn of_event(_made: &Made) -> NoNumbers
-        requires last { (receipt_of _made.now).at ≡ 2 ^ 64 - 1 }
-    {
-        NoNumbers { seal: () }
-    }
-}
-
-/// What a site has said of all connections that follow.
-#[derive(Drop)]
-pub struct Seen<L: Assumptions> {
-    /// That all places are retired.
-    pub retired: Option<AllRetired<L>>,
-    /// That no number is left.
-    pub spent: Option<NoNumbers>,
-}
-
-impl<L: Assumptions> Seen<L> {
-    /// Nothing yet.
-    pub fn new() -> Seen<L> {
-        Seen {
-            retired: None,
-            spent: None,
-        }
-    }
-}
-
-/// Lets the connections of an acceptor in, by a caller of a site that makes no other events: its share is how many were
-/// let in.
-#[derive(Drop)]
-pub struct Entrance<G: Ground> {
-    pub admitter: CallerOf<G>,
-    pub seen: Seen<G::Places>,
-}
 
 /// The two ends of a connection that came, with their names, if there is memory for them.
 pub(crate) fn ends_of<X>(
@@ -84,22 +33,21 @@ pub(crate) fn ends_of<X>(
     Some((peer, local))
 }
 
-/// Counts a connection: its serial, and its place. Once the last number of an event is given nobody is let in any more.
+/// Counts a connection, by a caller of the site that makes no other events: its share is how many were let in. It gives a
+/// serial and a place. Once the last number of a connection or of an event is given, nobody is let in any more.
 ///
 /// # Errors
 /// It was refused.
 #[tactic(auto, using(crate::proofs::Shares::one_came, crate::proofs::Shares::none_came, crate::proofs::Shares::own_came))]
 pub(crate) fn admit<G: AgentGround>(
     context: &AgentContext<'_, G>,
-    entrance: &mut Entrance<G>,
+    admitter: &mut CallerOf<G>,
     peer: &Peer,
 ) -> Result<AdmittedBy<G>, Refused>
-    ensures came { LetsIn result (caller_share entrance.old.admitter) (caller_share entrance.new.admitter) }
-    ensures spent { OnSpent result (IsTrue (is_some entrance.new.seen.spent)) }
+    ensures came { LetsIn result (caller_share admitter.old) (caller_share admitter.new) }
     ensures own { AdmitsOwn result peer.now }
 {
     let (rt, site, log) = (context.rt, context.site, context.log);
-    let Entrance { admitter, seen } = entrance;
     match site.turn(rt, admitter, TellingAdmission::<G> { peer, rt, log }) {
         Ok((serial, place, made)) => {
             if made.at() == u64::MAX {
@@ -109,16 +57,12 @@ pub(crate) fn admit<G: AgentGround>(
                     leaving: Leaving::Dropped(DropCause::Memory),
                 };
                 let _ = site.turn(rt, admitter, turn);
-                seen.spent = Some(NoNumbers::of_event(&made));
                 return Err(Refused::Spent);
             }
             Ok((serial, place, made))
         }
         Err(refusal) => match refusal.fault() {
-            AdmitFault::Spent => {
-                seen.spent = Some(NoNumbers::of_refusal(&refusal));
-                Err(Refused::Spent)
-            }
+            AdmitFault::Spent => Err(Refused::Spent),
             _ => Err(Refused::Once),
         },
     }

@@ -1,22 +1,21 @@
 //! The service of TCP connections: who is let in, the calls of each connection by one caller of a site, and when the
 //! lines of the log are written. A line that can't be written is left out.
 //!
-//! The program's `serve` lends an `Entrance` and a `Server` to `Workers`. What they stand on is one type, a `Host`: its
-//! types are the ground of the site, the runtime, the rules, the log, and the streams and programs of connections. An
-//! agent stands on the first four (`AgentGround`). The life of a connection is one value after another: `Admitted`,
-//! `Started`, `Alive`, `Over`. None of the first three can be let go, and an end can't be told twice. `LoggedAgent` is
-//! the agent over which `serve_one` runs. What passes between a client and its program is no part of it: a pumped
+//! The program's `serve` lends a `Server` to `Workers`, with the caller of its site that lets connections in. What it
+//! stands on is one type, a `Host`: its types are the ground of the site, the runtime, the rules, the log, and the
+//! streams and programs of connections. An agent stands on the first four (`AgentGround`). The life of a connection is
+//! one value after another: `Admitted`, `Alive`, `Over`. Neither of the first two can be let go, and an end can't be told
+//! twice. `LoggedAgent` is the agent over which `serve_one` runs. What passes between a client and its program is no part of it: a pumped
 //! connection stands behind the job of its program. Tested only: no event comes out of turn.
 #![tactic(auto)]
 
 mod agent;
-pub mod entrance;
+mod entrance;
 pub mod host;
 pub mod life;
 mod reasons;
 pub mod server;
 mod serving;
 
-pub use entrance::{Entrance, Seen};
 pub use host::{AgentGround, Host, Rules, RulesHandle};
 pub use server::{AgentContext, Server, Service};

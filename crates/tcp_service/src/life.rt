@@ -2,19 +2,18 @@
 //! none can be let go.
 ghost use Rattle.std.specs.Prelude.{◌≡◌, IfOk, IfErr};
 ghost use Rattle.child_jobs.specs.Runs.{job_of, place_of};
-ghost use Rattle.one_connection.specs.Openings.{kept_opening};
 ghost use Rattle.server_events.specs.declared.event.Event.TheVariants.{Admitted as AdmittedEvent};
 ghost use Rattle.shared_site.specs.Receipts.{made_event};
 ghost use Rattle.tcp_service.specs.Agents.{IsFoundFor, asked};
-ghost use Rattle.tcp_service.specs.Lives.{EndsWithReason, IsEndOf, IsOwnChild, retires};
+ghost use Rattle.tcp_service.specs.Lives.{EndsWithReason, IsDecidedChild, IsEndOf, retires};
 
-use crate::agent::{FoundBy, LoggedAgent};
+use crate::agent::LoggedAgent;
 use crate::host::{AgentGround, Host};
 use crate::server::Server;
 use child_jobs::{Local, Place, Running};
 use one_connection::{Served, serve_one};
 use rule_lookup::Peer;
-use shared_site::{Ground, Made, OutOfTurn};
+use shared_site::{Made, OutOfTurn};
 use std::snapshot::Snapshot;
 use tcp_connections::ConnectionLauncher;
 
@@ -30,29 +29,12 @@ pub struct Admitted<H: Host> {
     pub(crate) ghost own: { made_event made.value ≡ AdmittedEvent serial peer },
 }
 
-/// A connection whose program was started, with what it runs by (`child`): the program is the plan's, with the
-/// variables of the decision by what this very connection found, for its client and its end. It found that by a new
-/// handle of the rules, which was opened for it. It goes on as an `Alive`.
-pub(crate) struct Started<'a, H: Host> {
-    pub(crate) server: &'a Server<'a, H>,
-    pub(crate) alive: Alive<H>,
-    pub(crate) peer: Snapshot<Peer>,
-    pub(crate) found: FoundBy<H>,
-    ghost child: { IsOwnChild (kept_opening H.File.bytes found)
-        (IsFoundFor H.Places.met (H.Rules.gives server.now.context.rules.now) H.Handle.opened alive.serial)
-        H.File.honest H.File.sound peer.value alive.local server.now.context.plan.now
-        (H.Job.program (job_of alive.running)) (H.Job.environment (job_of alive.running)) },
-}
-
-/// A connection whose program runs: the right to its end. One thread may give it to another.
+/// A connection whose program runs: the right to its end. Only `begin` makes one. One thread may give it to another.
 pub struct Alive<H: Host> {
     pub(crate) serial: u64,
     pub(crate) running: Running<H::Places, H::Job>,
     pub(crate) local: Local,
 }
-
-/// A program that was started for a connection, with what the connection found.
-type Ran<H> = (Running<<H as Ground>::Places, <H as Host>::Job>, FoundBy<H>);
 
 impl<H: Host> Server<'_, H> {
     /// Serves a connection up to the start of its program.
@@ -66,12 +48,12 @@ impl<H: Host> Server<'_, H> {
         peer: &Peer,
         local: &Local,
         connection: &H::Connection,
-    ) -> Result<Ran<H>, Over>
-        ensures own { IfOk result (λ ran. place_of ran.0 ≡ place) }
-        ensures child { IfOk result (λ ran. IsOwnChild (kept_opening H.File.bytes ran.1)
+    ) -> Result<Running<H::Places, H::Job>, Over>
+        ensures own { IfOk result (λ running. place_of running ≡ place) }
+        ensures child { IfOk result (λ running. IsDecidedChild
             (IsFoundFor H.Places.met (H.Rules.gives self.now.context.rules.now) H.Handle.opened serial)
             H.File.honest H.File.sound peer.now local.now self.now.context.plan.now
-            (H.Job.program (job_of ran.0)) (H.Job.environment (job_of ran.0))) }
+            (H.Job.program (job_of running)) (H.Job.environment (job_of running))) }
         ensures over { IfErr result (λ over. over.serial ≡ serial) }
         ensures reason { IfErr result (λ over. EndsWithReason
             (IsFoundFor H.Places.met (H.Rules.gives self.now.context.rules.now) H.Handle.opened serial)
@@ -101,8 +83,8 @@ impl<H: Host> Server<'_, H> {
             &mut greeter,
         ) {
             Served::Running(running) => {
-                let LoggedAgent { found, .. } = agent;
-                Ok((running, found))
+                drop(agent);
+                Ok(running)
             }
             Served::Denied | Served::StartFailed(_) | Served::Dropped(_) => {
                 let over = Over::of(&agent, serial, false);
@@ -110,21 +92,6 @@ impl<H: Host> Server<'_, H> {
                 Err(over)
             }
         }
-    }
-}
-
-impl<H: Host> Started<'_, H> {
-    /// It goes on, in this thread or another one.
-    pub(crate) fn go_on(self) -> Alive<H>
-        ensures { result ≡ self.entry.alive }
-    {
-        let Started {
-            server: _,
-            alive,
-            peer: _,
-            found: _,
-        } = self;
-        alive
     }
 }
 

@@ -1,15 +1,16 @@
 //! How a server's connections are served: by the calls that `Workers` makes for each.
-ghost use Rattle.std.specs.Prelude.{◌≡◌, IfOk, IfErr, is_some};
-ghost use Rattle.child_jobs.specs.Runs.{job_of};
+ghost use Rattle.std.specs.Prelude.{◌≡◌, IfOk, IfErr};
+ghost use Rattle.child_jobs.specs.Runs.{job_of, place_of};
 ghost use Rattle.shared_site.specs.Callers.{caller_share};
 ghost use Rattle.tcp_service.specs.Accepting.{IsAccepted};
 ghost use Rattle.tcp_service.specs.Agents.{IsFoundFor, asked};
 ghost use Rattle.tcp_service.specs.Lives.{EndsWithReason, IsDecidedChild, IsEndOfChild};
 
-use crate::entrance::{Entrance, admit, ends_of};
+use crate::entrance::{admit, ends_of};
 use crate::host::Host;
-use crate::life::{Admitted, Alive, Over, Started};
+use crate::life::{Admitted, Alive, Over};
 use crate::server::Server;
+use shared_site::CallerOf;
 use std::snapshot::Snapshot;
 use tcp_connections::{Accepted, Refused, Serving, wait_in_rounds};
 
@@ -30,7 +31,7 @@ where
 {
     type Came = Accepted<H::Connection>;
 
-    type Entrance = Entrance<H>;
+    type Entrance = CallerOf<H>;
 
     type Work = Admitted<H>;
 
@@ -43,18 +44,14 @@ where
 
     ghost count = { H.Callers.admissions };
 
-    ghost let_in = { λ entrance. caller_share entrance.admitter };
-
-    ghost all_retired = { λ entrance. is_some entrance.seen.retired };
-
-    ghost is_spent = { λ entrance. is_some entrance.seen.spent };
+    ghost let_in = { λ admitter. caller_share admitter };
 
     ghost retired = { λ over. over.is_retired };
 
     /// A connection gets the names of its ends, and is counted.
     fn admit(
         &self,
-        entrance: &mut Entrance<H>,
+        admitter: &mut CallerOf<H>,
         came: Accepted<H::Connection>,
     ) -> Result<Admitted<H>, Refused> {
         let context = &self.context;
@@ -63,7 +60,7 @@ where
             let _ = context.log.lock(context.rt).out_of_memory();
             return Err(Refused::Once);
         };
-        match admit(context, entrance, &peer) {
+        match admit(context, admitter, &peer) {
             Ok((serial, place, made)) => Ok(Admitted {
                 serial,
                 place,
@@ -81,22 +78,13 @@ where
         }
     }
 
-    fn has_places(&self, entrance: &mut Entrance<H>) -> bool {
-        match self.context.site.retired(self.context.rt) {
-            None => true,
-            Some(retired) => {
-                entrance.seen.retired = Some(retired);
-                false
-            }
-        }
-    }
-
     /// A connection is served, and goes on if its program was started.
     ///
     /// # Errors
     /// It is over: it was denied or given up, or its program could not be started.
     fn begin(&self, admitted: Admitted<H>) -> Result<Alive<H>, Over>
         ensures own { IfOk result (λ alive. alive.serial ≡ admitted.serial) }
+        ensures place { IfOk result (λ alive. place_of alive.running ≡ admitted.place) }
         ensures child { IfOk result (λ alive. IsDecidedChild
             (IsFoundFor H.Places.met (H.Rules.gives self.now.context.rules.now) H.Handle.opened admitted.serial)
             H.File.honest H.File.sound admitted.peer admitted.local self.now.context.plan.now
@@ -117,26 +105,15 @@ where
         } = admitted;
         let served = self.serve(serial, place, &peer, &local, &connection);
         drop(connection);
+        drop(peer);
         match served {
-            Ok((running, found)) => {
-                let alive = Alive {
-                    serial,
-                    running,
-                    local,
-                };
-                let kept = Snapshot::of(&peer);
-                drop(peer);
-                let started = Started {
-                    server: self,
-                    alive,
-                    peer: kept,
-                    found,
-                };
-                Ok(started.go_on())
-            }
+            Ok(running) => Ok(Alive {
+                serial,
+                running,
+                local,
+            }),
             Err(over) => {
                 drop(local);
-                drop(peer);
                 Err(over)
             }
         }

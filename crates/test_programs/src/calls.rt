@@ -22,6 +22,9 @@ use whole_yard::{InstallBegin, InstallStep, Open};
 /// More steps than an installation of a short text takes.
 const STEPS: u64 = 64;
 
+/// How many milliseconds a caller waits for room.
+const PATIENCE: u64 = 60_000;
+
 /// A caller at work, with the receipts of its events.
 #[derive(Drop)]
 pub(crate) struct Worker<N: Callers> {
@@ -59,22 +62,21 @@ impl<G: Ground, R: Wait + Clock> At<'_, G, R> {
         worker: &mut Worker<G::Callers>,
         peer: &Peer,
     ) -> Option<(u64, Place<G::Places>)> {
-        for _ in self.rt.forever() {
-            let are_retired = self.site.retired(self.rt).is_some();
+        for _ in 0..PATIENCE {
             match self.site.turn(self.rt, &mut worker.caller, Admit { peer }) {
                 Ok((serial, place, made)) => {
                     worker.receipts.keep_admitted(made, serial, peer);
                     return Some((serial, place));
                 }
                 Err(refusal) => {
-                    if are_retired || !matches!(refusal.fault(), AdmitFault::Full) {
+                    if !matches!(refusal.fault(), AdmitFault::Full) {
                         return None;
                     }
                     thread::sleep(self.rt, Duration::from_millis(1));
                 }
             }
         }
-        unreachable!()
+        None
     }
 
     /// Opens the rules for a connection, and answers how they decide it.

@@ -1,6 +1,5 @@
 //! Eight callers in threads of their own, who share four places.
 ghost use Rattle.std.specs.Prelude.{◌≡◌, false};
-ghost use Rattle.shared_site.specs.Callers.{new_count};
 
 use crate::calls::{At, Worker};
 use crate::receipts::Receipts;
@@ -13,14 +12,15 @@ use rules_install::whole::prepare;
 use rules_install::{FileNames, Install};
 use server_events::Report;
 use server_yard::Assumptions;
-use shared_site::{BackCallers, Caller, Callers, Ground, NewCallers};
+use shared_site::{Caller, Callers, Ground};
 use std::alloc::{AllocError, Global};
 use std::marker::Brand;
 use std::sync::Wait;
-use std::sync::ledger::Blank;
+use std::sync::ledger::{Blank, Share};
 use std::thread;
 use std::thread::Threads;
 use std::time::Clock;
+use whole_yard::BackCallers;
 
 const CALLERS: u64 = 8;
 
@@ -40,7 +40,7 @@ trait Work<C, W> {
 
 impl<G: Ground, R: Wait + Clock> Work<Caller<G::Callers>, Worker<G::Callers>> for At<'_, G, R> {
     fn work(&self, caller: Caller<G::Callers>) -> Worker<G::Callers> {
-        let peer = peer_for(self.alloc, caller.number());
+        let peer = peer_for(self.alloc, caller.number);
         let mut worker = Worker {
             caller,
             receipts: Receipts::new(self.alloc),
@@ -95,16 +95,18 @@ fn name(alloc: Global, bytes: &[u8]) -> Option<Name> {
     Name::new(alloc, bytes).ok()
 }
 
-// Takes eight callers.
-fn take_eight<N: Callers>(
-    alloc: Global,
-    new: &mut NewCallers<N>,
-) -> Result<Vec<Caller<N>>, AllocError>
-    requires eight { new_count new.old ≡ CALLERS }
+// Makes eight callers of the share of all.
+fn take_eight<N: Callers>(alloc: Global, share: &mut Share<N>) -> Result<Vec<Caller<N>>, AllocError>
+    requires eight { share.old.parts ≡ CALLERS }
+    requires idle { share.old.amount ≡ 0 }
 {
     let mut callers = Vec::new(alloc);
-    for _ in 0..CALLERS {
-        callers.push(new.take())?;
+    for before in 0..CALLERS {
+        let caller = Caller {
+            number: before + 1,
+            share: share.split_off(1, 0),
+        };
+        callers.push(caller)?;
     }
     Ok(callers)
 }
@@ -114,33 +116,49 @@ fn run_eight<N: Callers + Send, W: Work<Caller<N>, Worker<N>> + Sync, R: Threads
     rt: &R,
     alloc: Global,
     work: &W,
-    new: &mut NewCallers<N>,
+    share: &mut Share<N>,
 ) -> Result<Vec<Worker<N>>, AllocError>
-    requires eight { new_count new.old ≡ CALLERS }
+    requires eight { share.old.parts ≡ CALLERS }
+    requires idle { share.old.amount ≡ 0 }
 {
-    let callers = take_eight(alloc, new)?;
+    let callers = take_eight(alloc, share)?;
     thread::map_vec(rt, callers, &|caller| work.work(caller))
 }
 
 // Gathers the callers that are back from their threads, and all their receipts.
 fn gather<N: Callers>(
     alloc: Global,
-    new: NewCallers<N>,
+    none: Share<N>,
     workers: Result<Vec<Worker<N>>, AllocError>,
 ) -> (BackCallers<N>, Receipts)
-    requires parts { N.all ≡ N.parts }
+    requires none { none.parts ≡ 0 }
+    ensures all { result.0.all ≡ CALLERS }
 {
-    let mut back = new.into_back();
+    let (mut share, mut lacking) = (none, CALLERS);
     let mut receipts = Receipts::new(alloc);
     match workers {
         Ok(workers) => {
             for worker in workers {
-                back.add(worker.caller);
-                receipts.append(worker.receipts);
+                let Worker {
+                    caller,
+                    receipts: its,
+                } = worker;
+                if lacking > 0 {
+                    share.merge(caller.share);
+                    lacking -= 1;
+                } else {
+                    drop(caller);
+                }
+                receipts.append(its);
             }
         }
         Err(_) => receipts.fail(),
     }
+    let back = BackCallers {
+        all: CALLERS,
+        lacking,
+        share,
+    };
     (back, receipts)
 }
 
@@ -149,13 +167,14 @@ fn run_all<N: Callers + Send, W: Work<Caller<N>, Worker<N>> + Sync, R: Threads +
     rt: &R,
     alloc: Global,
     work: &W,
-    mut new: NewCallers<N>,
+    mut share: Share<N>,
 ) -> (BackCallers<N>, Receipts)
-    requires eight { new_count new ≡ CALLERS }
-    requires parts { N.all ≡ N.parts }
+    requires eight { share.parts ≡ CALLERS }
+    requires idle { share.amount ≡ 0 }
+    ensures all { result.0.all ≡ CALLERS }
 {
-    let workers = run_eight(rt, alloc, work, &mut new);
-    gather(alloc, new, workers)
+    let workers = run_eight(rt, alloc, work, &mut share);
+    gather(alloc, share.empty(), workers)
 }
 
 // Runs eight callers of one site over a directory.
@@ -176,15 +195,15 @@ where
     requires places { (places.name ≡ G.Places.name) × (places.parts ≡ G.Places.parts) × (places.parts ≡ LIMIT) }
     requires met { G.Places.met ≡ false }
     requires parts { (parts.name ≡ G.Callers.name) × (parts.parts ≡ G.Callers.parts) × (parts.parts ≡ CALLERS) }
-    requires callers { (G.Callers.all ≡ CALLERS) × (G.Callers.before ≡ 0) }
+    requires callers { G.Callers.before ≡ 0 }
 {
-    let (site, new) = new_site::<G>(alloc, places, parts, dir, rules, LIMIT, CALLERS)?;
+    let (site, share) = new_site::<G>(alloc, places, parts, dir, rules, LIMIT)?;
     let at = At {
         rt,
         alloc,
         site: &site,
     };
-    let (callers, receipts) = run_all(rt, alloc, &at, new);
+    let (callers, receipts) = run_all(rt, alloc, &at, share);
     drop(at);
     close(alloc, site, callers, receipts, LIMIT)
 }
@@ -198,7 +217,7 @@ fn eight<
     requires places { (places.name ≡ L.name) × (places.parts ≡ L.parts) × (places.parts ≡ LIMIT) }
     requires met { L.met ≡ false }
     requires parts { (parts.name ≡ N.name) × (parts.parts ≡ N.parts) × (parts.parts ≡ CALLERS) }
-    requires callers { (N.all ≡ CALLERS) × (N.before ≡ 0) }
+    requires callers { N.before ≡ 0 }
 {
     let alloc = rt.alloc();
     let rules = Some((name(alloc, b"rules")?, WhenMissing::Deny));

@@ -3,7 +3,6 @@ ghost use Rattle.std.specs.Prelude.{◌≡◌, false, IfSome, IsTrue, OnOk};
 ghost use Rattle.server_events.specs.JournalParts.{books_of_journal};
 ghost use Rattle.server_yard.specs.Kept.{rules_of};
 ghost use Rattle.server_yard.specs.Standing.{BeginsWell};
-ghost use Rattle.shared_site.specs.Callers.{new_count};
 ghost use Rattle.whole_yard.specs.Closings.{IsWhole};
 
 use crate::receipts::Receipts;
@@ -12,11 +11,11 @@ use memory_dirs::{MemDir, MemFile};
 use rule_lookup::WhenMissing;
 use server_events::{Event, Journal, Report, replay};
 use server_yard::{Assumptions, Yard};
-use shared_site::{BackCallers, Callers, Ground, NewCallers, Receipt, Site};
+use shared_site::{Callers, Ground, Receipt, Site};
 use std::alloc::{AllocError, Global};
 use std::marker::PhantomData;
-use std::sync::ledger::Blank;
-use whole_yard::{NotWhole, close_and_audit};
+use std::sync::ledger::{Blank, Share};
+use whole_yard::{BackCallers, NotWhole, close_and_audit};
 
 /// What these sites stand on: a directory in memory, with these ledgers of places and of callers.
 pub(crate) struct InMemory<L, N>(PhantomData<(L, N)>);
@@ -33,7 +32,7 @@ impl<L: Assumptions, N: Callers> Ground for InMemory<L, N> {
     ghost is_servers = { false };
 }
 
-/// A site over a directory, and its callers.
+/// A site over a directory, and the share of all its callers.
 pub(crate) fn new_site<G: Ground>(
     alloc: Global,
     places: Blank,
@@ -41,17 +40,17 @@ pub(crate) fn new_site<G: Ground>(
     dir: G::Folder,
     rules: Option<(Name, WhenMissing)>,
     limit: u64,
-    callers: u64,
-) -> Option<(Site<G>, NewCallers<G::Callers>)>
+) -> Option<(Site<G>, Share<G::Callers>)>
     requires places { (places.name ≡ G.Places.name) × (places.parts ≡ G.Places.parts) × (places.parts ≡ limit) }
     requires begins { IsTrue G.Places.met → BeginsWell G.Folder.honest (G.Folder.state dir) (rules_of rules) }
-    requires parts { (parts.name ≡ G.Callers.name) × (parts.parts ≡ G.Callers.parts) × (parts.parts ≡ callers) }
-    requires callers { (G.Callers.all ≡ callers) × (G.Callers.before ≡ 0) }
-    ensures callers { IfSome result (λ made. new_count made.1 ≡ callers) }
+    requires parts { (parts.name ≡ G.Callers.name) × (parts.parts ≡ G.Callers.parts) }
+    requires callers { G.Callers.before ≡ 0 }
+    ensures parts { IfSome result (λ made. made.1.parts ≡ G.Callers.parts) }
+    ensures idle { IfSome result (λ made. made.1.amount ≡ 0) }
 {
     let journal = Journal::storing(alloc);
     let yard = Yard::new(alloc, places, dir, rules, limit, journal).ok()?;
-    Some(Site::new(parts, yard, callers))
+    Some(Site::new(parts, yard))
 }
 
 /// What the yard of a site reports once its callers are all back. Their receipts have to be its whole history, and that
@@ -63,7 +62,7 @@ pub(crate) fn close<G: Ground>(
     receipts: Receipts,
     limit: u64,
 ) -> Option<Report>
-    requires { G.Callers.all ≡ G.Callers.parts }
+    requires all { callers.all ≡ G.Callers.parts }
 {
     match close_and_audit(site, callers, &receipts.list) {
         Ok((yard, audited)) => {

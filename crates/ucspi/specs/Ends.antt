@@ -1,16 +1,34 @@
 -- How the tool ends, by how its server did.
-use Rattle.std.specs.Prelude.{ℤ, Bool, true, false, Option, None, Result, Ok, Err}
+use Rattle.std.specs.Prelude.{ℤ, not, nat_le, ◌==◌, ◌-◌, ◌^◌, length, Option, None, Result, Ok, Err, if◌then◌else◌}
+use Rattle.server_events.specs.Journals.{Books}
+use Rattle.server_events.specs.ServerState.{ServerState}
 use Rattle.server_parts.specs.declared.fault.ServerFailure.{ServerFailure}
+use Rattle.server_parts.specs.declared.fault.ServerFault.{ServerFault}
 use Rattle.server_parts.specs.declared.fault.ServerFault.TheVariants as fault
 use Rattle.tcp_connections.specs.declared.serving.ServeEnd.{ServeEnd}
-use Rattle.tcp_connections.specs.declared.serving.ServeEnd.TheVariants.{AcceptFaults, Count, NoPlaces, OutOfMemory, Spent}
+use Rattle.tcp_connections.specs.declared.serving.ServeEnd.TheVariants.{AcceptFaults, Count, Exhausted, Spent}
+use Rattle.ucspi.specs.declared.ends.Last.{Last}
 
--- a server that has served all ends well, unless it has lost a connection; a fault of accepting has the last error's
--- number, or that of what there was too little of, and no other fault has one
-abbrev pub told_of : (has_lost : Bool) → ServeEnd → (accepting : Option ℤ) → Result (Unit {0}) ServerFailure
-told_of true end accepting = Err (record { fault = fault.LostConnection; error = None })
-told_of false Count accepting = Ok tt
-told_of false Spent accepting = Ok tt
-told_of false NoPlaces accepting = Err (record { fault = fault.NoPlaces; error = None })
-told_of false AcceptFaults accepting = Err (record { fault = fault.AcceptFault; error = accepting })
-told_of false OutOfMemory accepting = Err (record { fault = fault.OutOfMemory; error = None })
+-- what a yard with these books and this server was like at the end
+abbrev pub last_of : Books → ServerState → Last
+last_of books server = record {
+  has_lost = not (books.report.retired == length server.connections);
+  is_spent = books.count == 2 ^ 64 - 1;
+  is_retired = nat_le server.limit books.report.retired;
+}
+
+-- the end by a fault that has no number of the system
+abbrev pub failed : ServerFault → Result (Unit {0}) ServerFailure
+failed fault = Err (record { fault = fault; error = None })
+
+-- a server that has served all ends well; a fault of accepting has the last error's number, or that of what there was too
+-- little of; what else ends a server is that all places are retired, or want of memory
+abbrev pub told_by : Last → ServeEnd → (accepting : Option ℤ) → Result (Unit {0}) ServerFailure
+told_by last Count accepting = Ok tt
+told_by last Spent accepting = if last.is_spent then Ok tt else failed fault.OutOfMemory
+told_by last AcceptFaults accepting = Err (record { fault = fault.AcceptFault; error = accepting })
+told_by last Exhausted accepting = if last.is_retired then failed fault.NoPlaces else failed fault.OutOfMemory
+
+-- but one that has lost a connection ends by that
+abbrev pub told_of : Last → ServeEnd → (accepting : Option ℤ) → Result (Unit {0}) ServerFailure
+told_of last end accepting = if last.has_lost then failed fault.LostConnection else told_by last end accepting

@@ -13,26 +13,38 @@ use tcp_service::Host;
 #[derive(Drop)]
 pub struct Finished(());
 
-// How the tool ends, by how its server did and the system's last fault of accepting. The events of its site were a run.
+/// What a yard was like at the end of its server.
+#[derive(Clone, Copy)]
+pub(crate) struct Last {
+    /// Whether a connection is alive still that is not retired, though no thread has it.
+    pub has_lost: bool,
+    /// Whether the last number of an event was given.
+    pub is_spent: bool,
+    /// Whether all places are retired.
+    pub is_retired: bool,
+}
+
+// How the tool ends, by how its server did, what its yard was then, and the system's last fault of accepting. The events
+// of its site were a run.
 pub(crate) fn end_of<H: Host>(served: Closed<H>) -> Result<Finished, ServerFailure>
     requires servers { H.is_servers ≡ true }
     requires new { H.Callers.before ≡ 0 }
     ensures ran { HasRun served.yard }
-    ensures finished { OnOk result (told_of served.has_lost served.end served.faults.last ≡ Ok tt) }
-    ensures closed { IfErr result (λ failure. told_of served.has_lost served.end served.faults.last ≡ Err failure) }
+    ensures finished { OnOk result (told_of served.last served.end served.faults.last ≡ Ok tt) }
+    ensures closed { IfErr result (λ failure. told_of served.last served.end served.faults.last ≡ Err failure) }
 {
-    let (has_lost, end, error) = (served.has_lost, served.end, served.faults.last);
+    let (last, end, error) = (served.last, served.end, served.faults.last);
     drop(served);
-    if has_lost {
-        return Err(ServerFailure::from(ServerFault::LostConnection));
-    }
-    match end {
-        ServeEnd::Count | ServeEnd::Spent => Ok(Finished(())),
-        ServeEnd::NoPlaces => Err(ServerFailure::from(ServerFault::NoPlaces)),
-        ServeEnd::AcceptFaults => Err(ServerFailure {
-            fault: ServerFault::AcceptFault,
-            error,
-        }),
-        ServeEnd::OutOfMemory => Err(ServerFailure::from(ServerFault::OutOfMemory)),
-    }
+    let fault = match end {
+        _ if last.has_lost => ServerFault::LostConnection,
+        ServeEnd::Count => return Ok(Finished(())),
+        ServeEnd::Spent if last.is_spent => return Ok(Finished(())),
+        ServeEnd::AcceptFaults => {
+            let fault = ServerFault::AcceptFault;
+            return Err(ServerFailure { fault, error });
+        }
+        ServeEnd::Exhausted if last.is_retired => ServerFault::NoPlaces,
+        ServeEnd::Spent | ServeEnd::Exhausted => ServerFault::OutOfMemory,
+    };
+    Err(ServerFailure::from(fault))
 }

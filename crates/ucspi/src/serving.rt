@@ -1,19 +1,20 @@
 //! The server: it lets connections in, each served by threads that are kept, until it comes to an end.
 //!
 //! This stands in the program's crate because whoever names `Workers::serve_through` loads all proofs behind it.
-ghost use Rattle.std.specs.Prelude.{◌≡◌, ◌↔◌, ◌+◌, true, false, IsTrue, is_some, length};
+ghost use Rattle.std.specs.Prelude.{◌≡◌, ◌+◌, true};
 ghost use Rattle.server_yard.specs.Yards.{HasRun, name_of, yard_books, yard_rules, yard_server};
-ghost use Rattle.shared_site.specs.Callers.{back_lacking, back_share, caller_share};
+ghost use Rattle.shared_site.specs.Callers.{caller_share};
 ghost use Rattle.tcp_connections.specs.Admissions.{EndsAtCount, FailedToAccept, LetsInAtMost, suffices};
-ghost use Rattle.tcp_connections.specs.declared.serving.ServeEnd.TheVariants.{AcceptFaults, NoPlaces, Spent};
+ghost use Rattle.tcp_connections.specs.declared.serving.ServeEnd.TheVariants.{AcceptFaults};
 ghost use Rattle.tcp_service.specs.Agents.{IsFoundFor};
 ghost use Rattle.tcp_service.specs.Lives.{MayStartEach};
+ghost use Rattle.ucspi.specs.Ends.{last_of};
 
-use crate::ends::{Finished, end_of};
+use crate::ends::{Finished, Last, end_of};
 use child_jobs::Plan;
 use server_log::Log;
 use server_parts::ServerFailure;
-use shared_site::{BackCallers, CallerOf, Site, YardOf};
+use shared_site::{Caller, CallerOf, Site, YardOf};
 use std::alloc::Global;
 use std::snapshot::Snapshot;
 use std::sync::Mutex;
@@ -21,44 +22,37 @@ use std::sync::ledger::Blank;
 use std::thread::Threads;
 use std::time::Clock;
 use tcp_connections::{Accepted, Acceptor, Faults, ServeEnd, Supply, Workers};
-use tcp_service::{AgentContext, Entrance, Host, Seen, Server, Service};
+use tcp_service::{AgentContext, Host, Server, Service};
 
 /// So many callers of a site make the events of a server: one lets connections in, and the other makes the rest.
 pub(crate) const CALLERS: u64 = 2;
 
 /// A server that has come to its end: nobody is let in any more and its threads have ended, both callers of its site
-/// are back and the site is closed. Each connection that is alive still is a retired one, unless one was lost. For want
-/// of places it ended only if its site has said that all are retired, and for want of numbers only if it has said that
-/// none is left. By faults of accepting it ended only if a hundred came since the last connection, or if there was too
-/// little for one connection.
+/// are back and the site is closed. By faults of accepting it ended only if a hundred came since the last connection, or
+/// if there was too little for one connection.
 #[derive(Drop)]
 pub(crate) struct Closed<H: Host> {
     /// How it ended.
     pub end: ServeEnd,
-    /// Whether a connection is alive still that is not retired, though no thread has it.
-    pub has_lost: bool,
+    /// What its yard was like then.
+    pub last: Last,
     /// What its site was made of, with all that happened.
     pub yard: YardOf<H>,
     /// The faults of accepting that came last in succession.
     pub faults: Faults,
     // what the system gave it
     supply: Supply,
-    // what its site has said of all connections that would have followed
-    seen: Seen<H::Places>,
     // the caller that let connections in, and the one that made all other events
     admitter: Snapshot<CallerOf<H>>,
     teller: Snapshot<CallerOf<H>>,
     // no event is of anybody else
     pub ghost all_back: { (yard_books yard).count
         ≡ H.Callers.before + (caller_share admitter.value + caller_share teller.value) },
-    pub ghost all_retired: { (has_lost ≡ false)
-        ↔ ((yard_books yard).report.retired ≡ length (yard_server yard).connections) },
+    pub ghost seen: { last ≡ last_of (yard_books yard) (yard_server yard) },
     // how many it let in
     pub ghost by_count: { EndsAtCount end H.Callers.admissions (caller_share admitter.value) },
     pub ghost most: { LetsInAtMost end H.Callers.admissions (caller_share admitter.value) },
     pub ghost by_faults: { end ≡ AcceptFaults → ∥ FailedToAccept (suffices supply) faults.count ∥₁ },
-    pub ghost by_places: { end ≡ NoPlaces → IsTrue (is_some seen.retired) },
-    pub ghost by_numbers: { end ≡ Spent → IsTrue (is_some seen.spent) },
     // its events are a run of a server
     pub ghost ran: { H.is_servers ≡ true → H.Callers.before ≡ 0 → HasRun yard },
 }
@@ -99,8 +93,7 @@ where
     H::Starter: Sync,
     H::Job: Send,
     A: Acceptor<Came = Accepted<H::Connection>> + Send + Drop,
-    requires parts { (parts.name ≡ H.Callers.name) × (parts.parts ≡ H.Callers.parts) × (parts.parts ≡ CALLERS)
-        × (H.Callers.all ≡ CALLERS) }
+    requires parts { (parts.name ≡ H.Callers.name) × (parts.parts ≡ H.Callers.parts) × (parts.parts ≡ CALLERS) }
     requires servers { H.is_servers ≡ true }
     requires new { (H.Callers.before ≡ 0) × ((yard_books yard).count ≡ 0) }
     requires count { H.Callers.admissions ≡ service.now.limits.count }
@@ -110,9 +103,12 @@ where
 {
     let live = yard.live();
     let _ = log.lock(rt).status(live);
-    let (site, mut callers) = Site::<H>::new(parts, yard, CALLERS);
-    let (teller, admitter) = (Mutex::new(callers.take()), callers.take());
-    let back = callers.into_back();
+    let (site, mut share) = Site::<H>::new(parts, yard);
+    let teller = Mutex::new(Caller {
+        number: CALLERS,
+        share: share.split_off(1, 0),
+    });
+    let admitter = Caller { number: 1, share };
     let server = Server::<H> {
         context: AgentContext {
             rt,
@@ -127,15 +123,11 @@ where
         service,
     };
     let (limits, supply) = (service.limits, service.supply);
-    let entrance = Entrance::<H> {
-        admitter,
-        seen: Seen::new(),
-    };
-    let (end, entrance, faults) = Workers::<H::Runtime, Server<'_, H>, A>::serve_through(
+    let (end, admitter, faults) = Workers::<H::Runtime, Server<'_, H>, A>::serve_through(
         rt,
         alloc,
         acceptor,
-        entrance,
+        admitter,
         &server,
         limits.connections,
         limits.count,
@@ -143,45 +135,44 @@ where
         &service.reserve,
     );
     let teller = teller.into_inner();
-    end_of(close(end, faults, supply, site, back, entrance, teller))
+    end_of(close(end, faults, supply, site, admitter, teller))
 }
 
-// Closes a site with both of its callers, and looks whether each connection that is alive still is retired.
+// Closes a site with both of its callers, and looks at its yard.
 fn close<H: Host>(
     end: ServeEnd,
     faults: Faults,
     supply: Supply,
     site: Site<H>,
-    back: BackCallers<H::Callers>,
-    entrance: Entrance<H>,
+    admitter: CallerOf<H>,
     teller: CallerOf<H>,
 ) -> Closed<H>
     requires faults { end ≡ AcceptFaults → FailedToAccept (suffices supply) faults.count }
-    requires places { end ≡ NoPlaces → IsTrue (is_some entrance.seen.retired) }
-    requires spent { end ≡ Spent → IsTrue (is_some entrance.seen.spent) }
-    requires count { EndsAtCount end H.Callers.admissions (caller_share entrance.admitter) }
-    requires most { LetsInAtMost end H.Callers.admissions (caller_share entrance.admitter) }
-    requires all { H.Callers.all ≡ H.Callers.parts }
-    requires both { (back_lacking back ≡ 2) × (back_share back ≡ 0) }
+    requires count { EndsAtCount end H.Callers.admissions (caller_share admitter) }
+    requires most { LetsInAtMost end H.Callers.admissions (caller_share admitter) }
+    requires both { H.Callers.parts ≡ CALLERS }
     ensures end { result.end ≡ end }
     ensures faults { result.faults ≡ faults }
 {
-    let Entrance { admitter, seen } = entrance;
-    let mut back = back;
     let (admitter_then, teller_then) = (Snapshot::of(&admitter), Snapshot::of(&teller));
-    back.add(admitter);
-    back.add(teller);
-    let Ok(yard) = site.close(back) else {
-        unreachable!()
+    let Caller {
+        number: _,
+        mut share,
+    } = admitter;
+    share.merge(teller.share);
+    let yard = site.close(share);
+    let retired = yard.journal().report().retired;
+    let last = Last {
+        has_lost: retired != yard.live(),
+        is_spent: yard.journal().events() == u64::MAX,
+        is_retired: retired >= yard.limit(),
     };
-    let has_lost = yard.journal().report().retired != yard.live();
     Closed {
         end,
-        has_lost,
+        last,
         yard,
         faults,
         supply,
-        seen,
         admitter: admitter_then,
         teller: teller_then,
     }

@@ -271,7 +271,7 @@ fn run_site<'a, L: Assumptions + Send + Sync, N: Callers + Send + Sync, P: Syste
         × (places.parts ≡ words.now.limits.connections) }
     requires met { L.met ≡ false }
     requires parts { (parts.name ≡ N.name) × (parts.parts ≡ N.parts) × (parts.parts ≡ CALLERS) }
-    requires callers { (N.all ≡ CALLERS) × (N.before ≡ 0) × (N.admissions ≡ server.now.service.limits.count) }
+    requires callers { (N.before ≡ 0) × (N.admissions ≡ server.now.service.limits.count) }
     requires asked { AreAsked words.now server.now.plan server.now.service server.now.passing }
     requires rules { AreRulesOf words.now rules }
     requires named { option_copied name ≡ name_of (rules_of rules) }

@@ -1,7 +1,6 @@
 //! The end of a site: its receipts are its whole history.
 ghost use Rattle.std.specs.Prelude.{◌≡◌, ◌≢◌, ◌+◌, ◌↔◌, Err, IsOk, IfOk, IfErr, OnOk, length};
 ghost use Rattle.server_yard.specs.Yards.{yard_books};
-ghost use Rattle.shared_site.specs.Callers.{back_lacking, back_share};
 ghost use Rattle.whole_yard.specs.Closings.{IsNotWhole, IsWhole};
 ghost use Rattle.whole_yard.specs.declared.closing.NotWhole.TheVariants.{Missing};
 
@@ -9,7 +8,20 @@ use crate::audit::{Mismatch, audit};
 use crate::laws::whole;
 use dir_calls::Dir;
 use server_yard::{Assumptions, Yard};
-use shared_site::{BackCallers, Ground, Receipt, Site, YardOf};
+use shared_site::{Ground, Receipt, Site, YardOf};
+use std::sync::ledger::{Ledger, Share};
+
+/// The callers of a site that make no events any more, with the events of all of them.
+#[derive(Drop)]
+pub struct BackCallers<N: Ledger> {
+    /// How many there are.
+    pub all: u64,
+    /// How many are not back yet.
+    pub lacking: u64,
+    /// The share of those that are.
+    pub share: Share<N>,
+    pub ghost parts: { share.parts + lacking ≡ all },
+}
 
 /// Why receipts are not the whole history.
 #[derive(Clone, Copy)]
@@ -61,19 +73,23 @@ pub fn close_and_audit<G: Ground>(
     callers: BackCallers<G::Callers>,
     receipts: &[Receipt],
 ) -> Result<(YardOf<G>, Result<(), NotWhole>), (Site<G>, BackCallers<G::Callers>)>
-    requires parts { G.Callers.all ≡ G.Callers.parts }
-    ensures all { IsOk result ↔ (back_lacking callers ≡ 0) }
+    requires all { callers.all ≡ G.Callers.parts }
+    ensures all { IsOk result ↔ (callers.lacking ≡ 0) }
     ensures whole { IfOk result (λ r. OnOk r.1 (IsWhole (yard_books r.0).notes receipts.now)) }
     ensures refused { IfOk result (λ r. IfErr r.1 (IsNotWhole (yard_books r.0).notes receipts.now)) }
-    ensures complete { G.Callers.before + back_share callers ≡ length receipts.now
+    ensures complete { G.Callers.before + callers.share.amount ≡ length receipts.now
         → IfOk result (λ r. r.1 ≢ Err Missing) }
     ensures back { IfErr result (λ r. (r.0 ≡ site) × (r.1 ≡ callers)) }
 {
-    match site.close(callers) {
-        Ok(yard) => {
-            let audited = audit_whole(&yard, receipts);
-            Ok((yard, audited))
-        }
-        Err(back) => Err(back),
+    if callers.lacking != 0 {
+        return Err((site, callers));
     }
+    let BackCallers {
+        all: _,
+        lacking: _,
+        share,
+    } = callers;
+    let yard = site.close(share);
+    let audited = audit_whole(&yard, receipts);
+    Ok((yard, audited))
 }

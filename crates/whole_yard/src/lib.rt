@@ -15,7 +15,7 @@ mod same;
 pub mod yard_agent;
 pub mod yard_serving;
 
-pub use closing::{NotWhole, audit_whole, close_and_audit};
+pub use closing::{BackCallers, NotWhole, audit_whole, close_and_audit};
 pub use install_turns::{InstallBegin, InstallStep};
 pub use open_turn::{Open, OpenFault};
 pub use yard_agent::{YardAgent, is_admitted};

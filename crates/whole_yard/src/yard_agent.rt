@@ -11,7 +11,6 @@ use rule_lookup::{DecideFault, Decision, Peer};
 use server_events::Stage;
 use server_yard::{Assumptions, Leaving, Pass, Yard};
 use std::alloc::Global;
-use std::snapshot::Snapshot;
 
 /// Whether a place belongs to a connection with this serial and this peer, which was let in and has no later event.
 /// `serve_one` over a yard requires this. It takes no memory.
@@ -39,21 +38,11 @@ fn has_serial<L: Assumptions, D: Dir + Drop>(
     yard.serial_of(place) == Some(serial)
 }
 
-/// A yard that nobody else uses, as the agent of one connection. It keeps what the connection found.
+/// A yard that nobody else uses, as the agent of one connection.
 #[derive(Drop)]
 pub struct YardAgent<L: Assumptions, D: Dir + Drop> {
     /// The yard.
     pub yard: Yard<L, D>,
-    found: Option<Snapshot<Pass<L, D::File>>>,
-}
-
-impl<L: Assumptions, D: Dir + Drop> YardAgent<L, D> {
-    /// The agent of a connection that this yard let in and that has not opened the rules.
-    pub fn new(yard: Yard<L, D>) -> YardAgent<L, D>
-        ensures { result.yard ≡ yard }
-    {
-        YardAgent { yard, found: None }
-    }
 }
 
 impl<L: Assumptions, D: Dir + Drop> Agent<L> for YardAgent<L, D> {
@@ -66,7 +55,7 @@ impl<L: Assumptions, D: Dir + Drop> Agent<L> for YardAgent<L, D> {
     ghost use Rattle.server_yard.specs.Yards.{yard_directory, yard_rules};
     ghost use Rattle.server_events.specs.Worlds.{missing_by};
     ghost use Rattle.one_connection.specs.Unstarted.{IsUnstarted};
-    ghost use Rattle.one_connection.specs.Openings.{Decides, FailsToDecide, RefusesDecision, kept_opening, opening_of};
+    ghost use Rattle.one_connection.specs.Openings.{Decides, FailsToDecide, RefusesDecision, opening_of};
     ghost use Rattle.whole_yard.specs.YardAgents.{FindsOf, IsGoneFrom, LeadsBy, MakesEvent, MakesNone, StandsAt};
 
     type Place = Place<L>;
@@ -89,8 +78,6 @@ impl<L: Assumptions, D: Dir + Drop> Agent<L> for YardAgent<L, D> {
 
     ghost finds = { λ agent opening. FindsOf agent.yard opening };
 
-    ghost found = { λ agent. kept_opening D.File.bytes agent.found };
-
     ghost tells = { λ agent event after. MakesEvent (LeadsOn event) event agent.yard after.yard };
 
     ghost tells_by = { λ agent it event after. MakesEvent (LeadsBy it event) event agent.yard after.yard };
@@ -111,10 +98,7 @@ impl<L: Assumptions, D: Dir + Drop> Agent<L> for YardAgent<L, D> {
         _peer: &Peer,
     ) -> Result<Pass<L, D::File>, DropCause> {
         match self.yard.open(alloc, serial) {
-            Ok(pass) => {
-                self.found = Some(Snapshot::of(&pass));
-                Ok(pass)
-            }
+            Ok(pass) => Ok(pass),
             Err(fault) => Err(cause_of_open(fault)),
         }
     }
@@ -146,7 +130,6 @@ impl<L: Assumptions, D: Dir + Drop> Agent<L> for YardAgent<L, D> {
             (StandsAt self.new.yard place.now (pass_serial pass) peer.now stage.Opened) }
         ensures quiet { OnErr result (MakesNone self.old.yard self.new.yard) }
         ensures cause { IfErr result (RefusesDecision false) }
-        ensures keeps { kept_opening D.File.bytes self.new.found ≡ kept_opening D.File.bytes self.old.found }
         ensures failures { D.failed (yard_directory self.new.yard) ≡ D.failed (yard_directory self.old.yard) }
     {
         self.yard.decided(pass, peer, decision);
@@ -162,7 +145,6 @@ impl<L: Assumptions, D: Dir + Drop> Agent<L> for YardAgent<L, D> {
         ensures told { MakesEvent
             (LeadsOn (StartFailed serial refusal.fault)) (StartFailed serial refusal.fault) self.old.yard self.new.yard }
         ensures gone { IsGoneFrom self.new.yard serial }
-        ensures keeps { kept_opening D.File.bytes self.new.found ≡ kept_opening D.File.bytes self.old.found }
     {
         self.yard.left(place, Leaving::StartFailed(refusal.fault));
     }
@@ -171,7 +153,6 @@ impl<L: Assumptions, D: Dir + Drop> Agent<L> for YardAgent<L, D> {
         requires stands { IsUnstarted (StandsAt self.old.yard place serial peer.now) }
         ensures told { MakesEvent (LeadsOn (Dropped serial cause)) (Dropped serial cause) self.old.yard self.new.yard }
         ensures gone { IsGoneFrom self.new.yard serial }
-        ensures keeps { kept_opening D.File.bytes self.new.found ≡ kept_opening D.File.bytes self.old.found }
         ensures failures { D.failed (yard_directory self.new.yard) ≡ D.failed (yard_directory self.old.yard) }
     {
         self.yard.left(place, Leaving::Dropped(cause));

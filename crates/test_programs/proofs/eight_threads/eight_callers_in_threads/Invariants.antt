@@ -11,4 +11,4 @@ abbrev pub ghosts-eight-N-Ledger : goal.ghosts-eight-N-Ledger
 ghosts-eight-N-Ledger g a = record { name = a.parts.name; parts = a.parts.parts }
 
 abbrev pub ghosts-eight-N-Callers : goal.ghosts-eight-N-Callers
-ghosts-eight-N-Callers g a = record { all = 8; before = 0; admissions = None }
+ghosts-eight-N-Callers g a = record { before = 0; admissions = None }

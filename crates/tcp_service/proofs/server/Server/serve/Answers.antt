@@ -1,6 +1,5 @@
 -- What was told last of a connection that was served is how it was served.
 use Rattle.std.proofs.Common.{◌∙◌, ap, ℕ, subst, sym}
-use Rattle.one_connection.specs.Openings.{kept_opening}
 use Rattle.tcp_service.specs.Agents.{IsFoundFor, asked}
 use Rattle.one_connection.specs.Servings.{MayStart}
 use Rattle.tcp_service.specs.Lives.{EndsWithReason}
@@ -17,7 +16,7 @@ returns-in-Denied-clause-reason g c =
     let ends : _ → ℕ → Type 0 = λ rules n. EndsWithReason (finds rules n) g.H.File.RulesFile.honest g.H.File.RulesFile.sound c.args.peer.now c.args.local.now c.args.self.now.context.plan.now refuses serial last in
     subst (λ rules. ends rules serial) c.agent-agent.ensures.rules
     (subst (λ n. ends agent.context.now.rules.now n) c.agent-agent.ensures.own
-    (unserved_told (finds agent.context.now.rules.now agent.serial) (kept_opening g.H.File.RulesFile.bytes c.serve_one.new.agent.found)
+    (unserved_told (finds agent.context.now.rules.now agent.serial)
     g.H.File.RulesFile.honest g.H.File.RulesFile.sound c.args.peer.now c.args.local.now c.args.self.now.context.plan.now refuses serial c.serve_one.result last
     c.in-Denied.is (ap asked c.of-over.ensures.last ∙ c.serve_one.ensures.told.told) c.serve_one.ensures.denied c.serve_one.ensures.start_failed c.serve_one.ensures.dropped))
 
