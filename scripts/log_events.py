@@ -4,7 +4,8 @@
 Usage: ucspi-log-events [PER] < log | ucspi rulesim (the name under which it is installed).
 
 The log is that of one run of `ucspi tcpserver -v`, from its first line on. Lines of its programs may stand between. The start of a program's
-line may stand in front of a line of the server, since a shell writes an error message in three pieces. PER is the number that the server has
+line may stand in front of a line of the server, since a shell writes an error message in three pieces. So what a program logs of its clients must
+not end as such a line does. PER is the number that the server has
 with `-m`. Without it the only limit for an address is that of `-c`, which the log tells. The answer is `admitted A live L retired R most M`, or
 `illegal I`: event I is the first that may not happen.
 
@@ -15,8 +16,8 @@ The log may end anywhere, as that of a server that still runs: a last line witho
 whose own line would come next.
 
 Lines that do not fit are named on standard error, and the exit code is then 1. These are a number of connections that the events before don't
-give, an event without its status, and a line of no known form. The log's own numbers count from there on, so that what is missing is named once. If
-the log can't be read or the script can't be written, the exit code is 111.
+give, an event without its status, and a line of no known form. The lines behind it are read by its numbers, so that a loss is named once. A line that
+nothing contradicts may be missing unseen: then `rulesim` may find the events illegal. If the log can't be read or the script can't be written, the exit code is 111.
 """
 import bisect
 import collections
@@ -111,7 +112,7 @@ class Endings:
         self.following.append(len(self.ends))
 
     def open_from(self, index):
-        """The first end from one on that is not given. The ways there are halved on each walk: whoever comes next has less to go."""
+        """The first end from one on that is not given. Each walk halves the way for the next."""
         following = self.following
         while following[index] != index:
             following[index] = following[following[index]]
@@ -141,13 +142,14 @@ class Endings:
 def line_of(number, text):
     """The server's own line in a line of its log, if there is one: all of it, or what stands behind the beginning of another line. That may be one of a
     program, or the unfinished last line of the log, which `tac` puts in front of the line before."""
-    begins = text.rfind(NAME)
-    if begins < 0 or RECORDED.match(text):
+    if NAME not in text or RECORDED.match(text):
         return None
-    for kind, form in FORMS:
-        match = form.fullmatch(text, begins + len(NAME))
-        if match:
-            return Line(number, kind, [field.decode() for field in match.groups()])
+    # (what a cause names may end in the server's name)
+    for begins in (text.rfind(NAME), text.find(NAME)):
+        for kind, form in FORMS:
+            match = form.fullmatch(text, begins + len(NAME))
+            if match:
+                return Line(number, kind, [field.decode() for field in match.groups()])
     return Line(number, "unknown", [text.decode("utf-8", "replace")]) if text.startswith(NAME) else None
 
 
@@ -230,6 +232,7 @@ class Events:
             self.fault(line, "%d alive, and by the events before %d" % (said, self.live()))
         if said > self.live():
             self.lacking = ALL
+            self.next += 0 if first else said - self.live()
         self.beyond += said - self.live()
 
     def is_denied_end(self, said):
@@ -299,8 +302,10 @@ class Events:
         if serial not in self.alive:
             if int(serial) >= self.lacking:
                 self.fault(line, "connection %s is not alive" % serial)
+            else:
+                self.beyond -= 1
             self.enter(serial, None)
-            self.beyond -= 1
+            self.next = max(self.next, int(serial) + 1)
         return self.alive[serial]
 
     def see_verdict(self, line):

@@ -567,7 +567,7 @@ def waiting(checks, kitchen):
 
 
 def changes(checks, kitchen):
-    """Each verdict is counted, whatever a program has left in front of it, and no client writes one; any name may be the text's."""
+    """Each verdict is counted, whatever a program has left in front of it, and no record of recordio is one; any name may be the text's."""
     verdict = "tcpserver: ok %d :10.0.0.1:25 :192.0.2.%d::5"
     lines = [
         verdict % (1, 1), "working.." + verdict % (2, 2), "@4000000067b3c1a10c2f5e3c %% tcpserver: " + verdict % (3, 3),

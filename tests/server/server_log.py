@@ -596,22 +596,23 @@ def audits_of_lost_lines(suite):
     run = [log_forms.status(0, 9)] + let_in(1, 1) + let_in(2, 2, "1.1.1.2") + [decided("ok", 1), decided("ok", 2, "1.1.1.2")]
     last = run + [log_forms.end(2), log_forms.status(1, 9), log_forms.end(1), log_forms.status(0, 9)] + let_in(3, 1)
     cases = [
-        ("serials from 715 on", later, [jump % (2, 715, 1)]),
-        ("a log from a verdict on", later[2:], [begin, jump % (5, 716, 1)]),
-        ("a log from an end on", later[3:], [begin, jump % (4, 716, 1)]),
-        ("a log from a status on", later[4:], [jump % (3, 716, 1)]),
-        ("a log from `pid` on", later[1:], [begin, jump % (1, 715, 1)]),
-        ("two that were let in before", [log_forms.status(2, 9)] + two, ["line 1: 2 alive, and by the events before 0", jump % (3, 5, 1)]),
-        ("two that were let in before, and no status", [decided("ok", 3)] + two, [begin, jump % (3, 5, 1)]),
-        ("lines between", last[:7] + later, ["line 8: 0 alive, and by the events before 2", jump % (9, 715, 3)]),
-        ("a run behind another", run + last, ["line 8: a status line of no event", jump % (10, 1, 3)]),
-        ("a run behind another that was over", last[:-2] + last, ["line 12: a status line of no event", jump % (14, 1, 3)]),
-        ("`pid` lost", last[:2] + last[3:], ["line 2: a status line of no event", jump % (4, 2, 1)]),
+        ("serials from 715 on", later, [jump % (2, 715, 1)], 1),
+        ("a log from a verdict on", later[2:], [begin], 1),
+        ("a log from an end on", later[3:], [begin], 1),
+        ("a log from a status on", later[4:], [jump % (3, 716, 1)], 1),
+        ("a log from `pid` on", later[1:], [begin, jump % (1, 715, 1)], 1),
+        ("two that were let in before", [log_forms.status(2, 9)] + two, ["line 1: 2 alive, and by the events before 0", jump % (3, 5, 1)], 1),
+        ("two that were let in before, and no status", [decided("ok", 3)] + two, [begin, jump % (3, 5, 4)], 1),
+        ("lines between", last[:7] + later, ["line 8: 0 alive, and by the events before 2", jump % (9, 715, 3)], 7),
+        ("a run behind another", run + last, ["line 8: a status line of no event", jump % (10, 1, 3)], 7),
+        ("a run behind another that was over", last[:-2] + last, ["line 12: a status line of no event", jump % (14, 1, 3)], 11),
+        ("`pid` lost", last[:2] + last[3:], ["line 2: a status line of no event"], 1),
+        ("`pid` lost, and its status", last[:1] + [decided("ok", 1), log_forms.end(1), log_forms.status(0, 9)] + let_in(2, 1), ["line 2: connection 1 is not alive"], 1),
     ]
-    for name, lines, wanted in cases:
+    for name, lines, wanted, illegal in cases:
         faults, answer = read_log(suite, log_forms.log(*lines))
         suite.expect(name, faults, wanted)
-        suite.holds(name + ": what comes of it", answer.startswith("illegal "), answer)
+        suite.expect(name + ": what comes of it", answer.split()[:2], ["illegal", str(illegal)])
 
 
 def audits_of_messages(suite):
@@ -621,6 +622,7 @@ def audits_of_messages(suite):
     calls = [
         [], ["0", "x", "true"], ["-v", "0", "0"], ["-Z", *there], ["-c"], ["-r", *there], ["-u", "1", *there], ["-c", "0", *there], ["-w", "x", *there],
         ["-N", suite.path("absent"), *there], ["-N", table, *there], ["-x", suite.path("absent/rules.cdb"), *there], ["-v", "192.0.2.1", "25", "true"],
+        ["-v", "-N", "absent/tcpserver", *there], ["-v", "-x", "absent/tcpserver/rules.cdb", *there],
         ["-v", "-x", named, "192.0.2.1", "25", "true"],
     ]
     run = log_forms.log(*mixed_log())
