@@ -14,15 +14,20 @@ use std::os::unix::fs::{MetadataExt, OpenOptionsExt, PermissionsExt};
 /// The permissions of a file that is not complete: no other user can open it, and so lock it.
 pub(crate) const HIDDEN: u32 = 0o600;
 
-/// The system's errors for a file that another process has, for a folder, for a link, and for anything else that is no
-/// file.
+/// The system's errors for a file that another process has, for a text that is in use, for a folder, for a link, and
+/// for anything else that is no file.
 const TAKEN: i32 = 11;
+
+const IN_USE: i32 = 26;
 
 const IS_FOLDER: i32 = 21;
 
 const IS_LINK: i32 = 40;
 
 const INVALID: i32 = 22;
+
+/// The standard input, if the system has such a name for it.
+const INPUT: &str = "/proc/self/fd/0";
 
 /// The file in which the system says which permissions the process masks, in one of the first lines.
 const STATUS: &str = "/proc/self/status";
@@ -79,7 +84,8 @@ pub(crate) fn complete(file: &File, mode: Option<u32>) -> io::Result<()> {
     }
 }
 
-// Whether a file has these permissions, and perhaps more. Some file systems give each file the same ones, and let nobody change them.
+// Whether a file has these permissions, and perhaps more. Some file systems give each file the same ones, and let
+// nobody change them.
 fn allows(file: &File, mode: u32) -> io::Result<bool> {
     Ok(file.metadata()?.mode() & mode == mode)
 }
@@ -135,9 +141,19 @@ pub(crate) fn check_file(found: &Metadata) -> io::Result<()> {
     Err(io::Error::from_raw_os_error(error))
 }
 
-/// Takes away what stands at a path, if it is a file that no process has; where one is named, only that one. Anything
-/// but a file is left there. It has no lock by which two processes could agree which of them takes it away, so one might
-/// take away the other's new file.
+/// Checks that a file which was looked at is not the standard input. With it the text would be lost that is read.
+pub(crate) fn check_not_input<R: Files>(files: &R, found: &Metadata) -> io::Result<()> {
+    match files.metadata(INPUT) {
+        Ok(input) if Identity::of(&input) == Identity::of(found) => {
+            Err(io::Error::from_raw_os_error(IN_USE))
+        }
+        _ => Ok(()),
+    }
+}
+
+/// Takes away what stands at a path, if it is a file that no process has, and not the standard input; if one is named,
+/// only that one. Anything but a file is left there. It has no lock by which two processes could agree which of them
+/// takes it away, so one might take away the other's new file.
 ///
 /// # Errors
 /// `NotFound` if nothing stands there; `WouldBlock` if another process has the file; that of `stale` if it is another
@@ -150,6 +166,7 @@ pub(crate) fn take_free<R: Files<File = File>>(
     let found = files.symlink_metadata(path)?;
     check_file(&found)?;
     check_wanted(&found, only)?;
+    check_not_input(files, &found)?;
     // (if a pipe was put there meanwhile, opening it to read and write does not wait)
     let opened = OpenOptions::new().read(true).write(true).open(files, path);
     let file = unless_taken(opened, ErrorKind::PermissionDenied)?;
@@ -171,9 +188,9 @@ fn check_wanted(found: &Metadata, only: Option<Identity>) -> io::Result<()> {
 }
 
 // Locks a file, if no other process has a lock in the way, and answers whether it is locked and still stands at its
-// path. Whoever may read a file can have a shared lock, beside which others can share it too. A process that made a file
-// shares its lock with nobody. (Two processes that find a file so locked at one moment may both take it away. The second
-// may then take away the new file of the first, whose look before the rename fails.)
+// path. Whoever may read a file can have a shared lock, beside which others can share it too. A process that made a
+// file shares its lock with nobody. (Two processes that find a file so locked at one moment may both take it away. The
+// second may then take away the new file of the first, whose look before the rename fails.)
 fn hold<R: Files<File = File>>(
     files: &R,
     file: &File,

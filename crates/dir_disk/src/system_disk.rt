@@ -6,7 +6,8 @@ ghost use Rattle.dir_disk.specs.OsParts.{system_folder};
 use crate::disk::{Disk, DiskFile, Look};
 use crate::failure::{FailedOn, Notes, store};
 use crate::lock::{
-    HIDDEN, Waits, check_file, complete, is_taken, make_claimed, read_mask, take_free,
+    HIDDEN, Waits, check_file, check_not_input, complete, is_taken, make_claimed, read_mask,
+    take_free,
 };
 use dir_calls::Name;
 use std::alloc::{AllocError, Global};
@@ -30,16 +31,16 @@ const STALE: i32 = 116;
 
 const NO_FOLDER: i32 = 20;
 
-/// A folder of the system. Each call is one of std's, with looks before it. Std writes all bytes of a call, and makes an
-/// interrupted `open`, `write` or `fsync` again. Looks at the folder, reads, `unlink` and `rename` are made again here.
-/// Nothing is known of the system: that it does what `Disk` says is the premise of all that stands on it.
+/// A folder of the system. Each call is one of std's, with looks before it. Std writes all bytes of a call, and makes
+/// an interrupted `open`, `write` or `fsync` again. Looks at the folder, reads, `unlink` and `rename` are made again
+/// here. Nothing is known of the system: that it does what `Disk` says is the premise of all that stands on it.
 ///
 /// Std has no calls by a folder's descriptor, so each call is by the path. The folder is opened once, before the first
 /// change of a name; if it can't be opened for reading, nothing has changed. Before each change of a name, and before
-/// names are made lasting, the disk compares the folder that it opened with what
-/// stands at its path now. If that is another folder, because a link on the way was changed, the call fails and nothing
-/// changes. A file that is to be renamed is compared in the same way with what stands under its name. Between such a
-/// look and the call itself the path may still be changed.
+/// names are made lasting, the disk compares the folder that it opened with what stands at its path now. If that is
+/// another folder, because a link on the way was changed, the call fails and nothing changes. A file that is to be
+/// renamed is compared in the same way with what stands under its name. No name is taken from the standard input, whose
+/// text would be lost. Between such a look and the call itself the path may still be changed.
 ///
 /// Several processes may make files under one name. A process claims a file by its lock, and `waits` says how long the
 /// others wait for it. No call takes memory.
@@ -200,7 +201,7 @@ impl<R: Files<File = File> + Drop, W: Waits + Drop> SystemDisk<R, W> {
         Ok(file)
     }
 
-    // Moves one name onto another, if it stands for this file.
+    // Moves one name onto another, if it stands for this file, and the other not for the standard input.
     fn move_file(&mut self, file: &File, from: &Name, to: &Name) -> io::Result<()> {
         put_path(&mut self.path, self.folder.as_str(), from)?;
         put_path(&mut self.onto, self.folder.as_str(), to)?;
@@ -208,7 +209,12 @@ impl<R: Files<File = File> + Drop, W: Waits + Drop> SystemDisk<R, W> {
         let path = self.path.as_str();
         let same = check_same(file.metadata(), self.files.symlink_metadata(path));
         self.notes.note(FailedOn::Name, same)?;
-        let outcome = self.files.rename(path, self.onto.as_str());
+        let onto = self.onto.as_str();
+        if let Ok(found) = self.files.symlink_metadata(onto) {
+            let kept = check_not_input(&self.files, &found);
+            self.notes.note(FailedOn::Onto, kept)?;
+        }
+        let outcome = self.files.rename(path, onto);
         self.notes.note(FailedOn::Onto, outcome)
     }
 
