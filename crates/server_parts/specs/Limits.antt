@@ -1,5 +1,5 @@
 -- The limits on memory, and which of them are too small for a server.
-use Rattle.std.specs.Prelude.{ℕ, ◌+◌, ◌*◌, ◌-◌, min, nat_lt, Option, Some, None, if◌then◌else◌}
+use Rattle.std.specs.Prelude.{ℕ, Bool, ◌+◌, ◌*◌, ◌-◌, min, nat_lt, Option, Some, None, if◌then◌else◌}
 use Rattle.server_words.specs.declared.mode.Mode.{Mode}
 use Rattle.server_words.specs.declared.mode.Mode.TheVariants.{HandedOver, Pumped}
 use Rattle.server_parts.specs.declared.limits.MemoryLimits.{MemoryLimits}
@@ -17,11 +17,12 @@ addresses_alone = 3300000
 abbrev pub room_of : MemoryLimits → ℕ
 room_of limits = min (limits.data - data_alone) (limits.addresses - addresses_alone)
 
--- how many connections may start their programs at once, of which each takes so much: four where there is room for five, and else one
-abbrev pub at_once_in : MemoryLimits → ℕ → ℕ
-at_once_in limits start = if nat_lt (room_of limits) (5 * start) then 1 else 4
+-- memory is low if there is no room for five connections that begin, of which each takes so much
+abbrev pub is_low : MemoryLimits → ℕ → Bool
+is_low limits start = nat_lt (room_of limits) (5 * start)
 
--- what its first connection takes, whose program inherits no variables: 320 KiB, and, if it is pumped, 320 KiB more for buffers
+-- what its first connection takes, whose program inherits no variables: 320 KiB, and, if it is pumped, 320 KiB more for
+-- buffers
 abbrev pub first_connection : Mode → ℕ
 first_connection HandedOver = 327680
 first_connection Pumped = 655360

@@ -14,15 +14,16 @@ use Rattle.tcp_connections.specs.declared.supply.Supply.{Supply}
 abbrev pub program_by : Service → ProgramText
 program_by service = record { path = service.path; args = service.args }
 
--- how the ends of connections get their names: by a host table where `-N` names one; the server's end has the name of `-l`; clients have names
--- (`-h`) or none (`-H`), and those that the table does not confirm are removed (`-p`) or not
+-- how the ends of connections get their names: by a host table if `-N` names one; the server's end has the name of
+-- `-l`; clients have names (`-h`) or none (`-H`), and those that the table does not confirm are removed (`-p`) or not
 pub record AreNamesOf (words : ServerPlan) (names : HostNames) : Type 0 where
   pub hosts : is_some names.hosts ≡ is_some words.hosts
   pub local : option_map string_bytes names.local ≡ words.local
   pub remote : names.remote ≡ words.names_remote
   pub confirm : names.confirm ≡ words.confirms
 
--- the name of the rules file is the last part of the path of `-x`, and `-X` says what it means that it is missing; without `-x` there is none
+-- the name of the rules file is the last part of the path of `-x`, and `-X` says what it means that it is missing;
+-- without `-x` there is none
 abbrev pub AreRulesBy : Option (List ℕ) → WhenMissing → Option (List ℕ × WhenMissing) → Type 0
 AreRulesBy None missing rules = rules ≡ None
 AreRulesBy (Some path) missing None = ⊥
@@ -31,8 +32,8 @@ AreRulesBy (Some path) missing (Some (name, told)) = ((folder : List ℕ) × IsS
 abbrev pub AreRulesOf : ServerPlan → Option (List ℕ × WhenMissing) → Type 0
 AreRulesOf words rules = AreRulesBy words.rules words.missing rules
 
--- the descriptors that a connection takes until its program runs, and from then on: its own and that of the rules file, where it is handed over; else
--- its own and both ends of two pipes, and then its own and an end of each
+-- the descriptors that a connection takes until its program runs, and from then on: its own and that of the rules file,
+-- if it is handed over; else its own and both ends of two pipes, and then its own and an end of each
 abbrev pub to_begin : Mode → ℕ
 to_begin HandedOver = 2
 to_begin Pumped = 5

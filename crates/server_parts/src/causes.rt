@@ -12,8 +12,8 @@ use std::net::Ipv4Addr;
 /// The tool's name, at the head of its lines.
 const TOOL: &str = "tcpserver";
 
-/// Leaves the line of the cause by which a server ends, where it is told and there is one; a part of it, where memory
-/// runs out.
+/// Appends the line of the cause by which a server ends to `causes`, if this voice tells it and there is one. If memory
+/// runs out, only a part of the line may be there.
 pub fn tell_failure(
     alloc: Global,
     voice: Voice,
@@ -32,7 +32,7 @@ pub fn tell_failure(
     }
 }
 
-// The line of a fault that has one without an error of the system, where there is memory for it.
+// The line of a fault that has one without an error of the system, if there is memory for it.
 fn append_known(mode: Mode, fault: ServerFault, causes: &mut Vec<u8>) {
     let small = match fault {
         ServerFault::CannotWait => {
@@ -55,8 +55,8 @@ fn append_known(mode: Mode, fault: ServerFault, causes: &mut Vec<u8>) {
     }
 }
 
-// The line of an error, with what the system was asked for. That of an address with its port has a colon of its own, and
-// nothing in it can be misread.
+// The line of an error, with what the system was asked for. That of an address with its port has a colon of its own,
+// and nothing in it can be misread.
 fn append_failure(
     alloc: Global,
     words: &ServerWords<'_>,

@@ -19,7 +19,8 @@ pub enum TcpserverFault {
     Server(ServerFault),
 }
 
-/// Why a server ends whose words are right, in the order of its checks. It prints as what stands behind the tool's name.
+/// Why a server ends whose words are right, in the order of its checks. It prints as what stands behind the tool's
+/// name.
 #[derive(Clone, Copy)]
 pub enum ServerFault {
     /// SIGCHLD is ignored, so that the system forgets how programs end.
@@ -28,19 +29,19 @@ pub enum ServerFault {
     ReadFault,
     /// This line of the host table, from 1, is none.
     BadHosts(u64),
-    /// The folder of the rules file is not there, or the last part of its path is no name.
+    /// The folder of the rules file can't be used, or the last part of its path is no name.
     Device,
-    /// The port could not be printed.
-    WriteFault,
     /// It can't listen at that address and port.
     CannotListen,
-    /// A hundred faults of accepting came in succession.
+    /// The port could not be printed.
+    WriteFault,
+    /// A hundred faults of accepting came in succession, or there are too few descriptors for one connection.
     AcceptFault,
-    /// No child of any place could be waited for.
+    /// All places are retired: no program that has them could be waited for.
     NoPlaces,
     /// A connection is alive that no thread has, and that is not retired: the server has lost it.
     LostConnection,
-    /// There was no memory for the server itself.
+    /// There was no memory for the server itself, or no thread or process for a first worker.
     OutOfMemory,
 }
 
@@ -51,8 +52,8 @@ impl Display for ServerFault {
             ServerFault::ReadFault => "read fault",
             ServerFault::BadHosts(line) => return write!(f, "host table line {line}"),
             ServerFault::Device => "device fault",
-            ServerFault::WriteFault => "write fault",
             ServerFault::CannotListen => "cannot listen",
+            ServerFault::WriteFault => "write fault",
             ServerFault::AcceptFault => "accept fault",
             ServerFault::NoPlaces => "no places left",
             ServerFault::LostConnection => "lost connection",
@@ -61,7 +62,7 @@ impl Display for ServerFault {
     }
 }
 
-/// Why a server ends, and the system's number of the error (`errno`) by which it does, where it has one.
+/// Why a server ends, and the system's number of the error (`errno`) by which it does, if it has one.
 #[derive(Clone, Copy)]
 pub struct ServerFailure {
     /// Why.

@@ -1,6 +1,6 @@
 //! The limits that the system sets for this process, and what they leave a server for its connections.
 ghost use Rattle.std.specs.Prelude.{◌≡◌};
-ghost use Rattle.server_parts.specs.Limits.{at_once_in, small_limit};
+ghost use Rattle.server_parts.specs.Limits.{is_low, small_limit};
 ghost use Rattle.server_parts.specs.Services.{IsSupplyIn};
 
 use libc::net::POLLNVAL;
@@ -8,23 +8,21 @@ use libc::types::{pollfd, rlimit};
 use server_words::Mode;
 use tcp_connections::{Memory, Supply};
 
-/// What `getrlimit` is asked: for the memory that is used, for descriptors, and for the addresses that are reserved.
+/// What `getrlimit` is asked beside descriptors: for the memory that is used, and for the addresses that are reserved.
 const DATA: i32 = 2;
-
-const DESCRIPTORS: i32 = 7;
 
 const ADDRESSES: i32 = 9;
 
-/// The answer where there is no limit.
+/// The answer if there is no limit.
 const UNLIMITED: u64 = u64::MAX;
 
-/// So many descriptors count as taken where the system does not tell which are.
+/// So many descriptors count as taken if the system does not tell which are.
 const TAKEN: u64 = 64;
 
 /// So many numbers of descriptors are looked at by one call.
 const LOOKED: u64 = 256;
 
-// The limit of this process on something; where the system doesn't tell it there is none.
+// The limit of this process on something; if the system doesn't tell it there is none.
 fn limit_on(something: i32) -> u64 {
     let mut limit = rlimit {
         rlim_cur: UNLIMITED,
@@ -38,7 +36,7 @@ fn limit_on(something: i32) -> u64 {
 
 /// The limits on the memory of a process, in bytes; one that there is not is the greatest number.
 #[derive(Clone, Copy)]
-pub struct MemoryLimits {
+pub(crate) struct MemoryLimits {
     /// How much of it the process may write to (`ulimit -d`).
     pub data: u64,
     /// How much address space it may reserve (`ulimit -v`).
@@ -55,13 +53,15 @@ impl MemoryLimits {
     }
 }
 
-/// The descriptors of a server that it opens after this: its socket, the folder of its rules, and two for a log that has to be waited for.
+/// The descriptors of a server that it opens after this: its socket, the folder of its rules, and two for a log that
+/// has to be waited for.
 const OWN: u64 = 4;
 
 /// The descriptors of a connection that is handed over, until its program has it: itself, and the rules file.
 const HANDED: u64 = 2;
 
-/// Those of a connection that is pumped, while its program is started: itself, and both ends of two pipes; and then: itself, and an end of each.
+/// Those of a connection that is pumped, while its program is started: itself, and both ends of two pipes. Then:
+/// itself, and an end of each.
 const PUMPED: u64 = 5;
 
 const PUMPED_ON: u64 = 3;
@@ -69,13 +69,14 @@ const PUMPED_ON: u64 = 3;
 /// Numbers of descriptors are looked at as far as connections may need them, and so many more.
 const BESIDE: u64 = 1_024;
 
-/// A page of memory, in bytes: where memory is limited the C library may take so much for each text.
+/// A page of memory, in bytes: if memory is limited the C library may take so much for each text.
 const PAGE: usize = 4 * 1024;
 
 /// How many texts a connection has, beside four for each variable that its program inherits.
 const TEXTS: usize = 64;
 
-/// What starting a program takes, in bytes; what a connection takes whose program runs; and the buffers of one that is pumped.
+/// What starting a program takes, in bytes; what a connection takes whose program runs; and the buffers of one that is
+/// pumped.
 const START: usize = 64 * 1024;
 
 const GOING_ON: usize = 32 * 1024;
@@ -87,12 +88,11 @@ const DATA_ALONE: u64 = 540_000;
 
 const ADDRESSES_ALONE: u64 = 3_300_000;
 
-/// What starting a program takes that inherits no variables; and what a connection that is pumped takes beside it: its buffers.
-const START_ALONE: u64 = 327_680;
+/// What starting a program takes that inherits no variables.
+const START_ALONE: u64 = (TEXTS * PAGE + START) as u64;
 
-const PUMPED_ALONE: u64 = 327_680;
-
-/// What the system gives the connections of a server in this mode, of which so many may be alive, and whose programs inherit so many variables.
+/// What the system gives the connections of a server in this mode, of which so many may be alive, and whose programs
+/// inherit so many variables.
 pub fn supply_for(mode: Mode, connections: u64, variables: usize) -> Supply
     ensures { IsSupplyIn mode result }
 {
@@ -106,10 +106,9 @@ pub fn supply_for(mode: Mode, connections: u64, variables: usize) -> Supply
     let start = texts.saturating_mul(PAGE).saturating_add(START);
     let limits = MemoryLimits::own();
     let is_limited = limits.data != UNLIMITED || limits.addresses != UNLIMITED;
-    let at_once = at_once_in(limits, start);
     let memory = Memory {
-        at_once: at_once as u64,
-        to_begin: start.saturating_mul(at_once),
+        is_low: is_low(limits, start),
+        to_begin: start,
         to_go_on: buffers.saturating_add(GOING_ON),
     };
     Supply {
@@ -120,19 +119,19 @@ pub fn supply_for(mode: Mode, connections: u64, variables: usize) -> Supply
     }
 }
 
-// How many connections may be there at once whose program is not started yet, where memory is limited and each takes so much: four where there is
-// room for five beside what a server takes alone, and else one. Where it is one the server saves threads too.
-fn at_once_in(limits: MemoryLimits, start: usize) -> usize
-    ensures { result ≡ at_once_in limits start }
+// Whether memory is low, if a connection takes so much until its program runs: there is no room for five such
+// connections beside what a server takes alone.
+fn is_low(limits: MemoryLimits, start: usize) -> bool
+    ensures { result ≡ is_low limits start }
 {
     let data = limits.data.saturating_sub(DATA_ALONE);
     let room = data.min(limits.addresses.saturating_sub(ADDRESSES_ALONE));
-    if start as u64 <= room / 5 { 4 } else { 1 }
+    start as u64 > room / 5
 }
 
 /// What a limit on memory counts.
 #[derive(Clone, Copy)]
-pub enum Counted {
+pub(crate) enum Counted {
     /// What may be written to (`ulimit -d`).
     Data,
     /// What is reserved (`ulimit -v`).
@@ -141,7 +140,7 @@ pub enum Counted {
 
 /// A limit on memory that is too small for a server.
 #[derive(Clone, Copy)]
-pub struct SmallLimit {
+pub(crate) struct SmallLimit {
     /// What it counts.
     pub counted: Counted,
     /// The limit, in bytes.
@@ -151,12 +150,12 @@ pub struct SmallLimit {
 }
 
 /// Of these limits the one that is too small for a server in this mode, if one is; of two that of data.
-pub fn small_limit(mode: Mode, limits: MemoryLimits) -> Option<SmallLimit>
+pub(crate) fn small_limit(mode: Mode, limits: MemoryLimits) -> Option<SmallLimit>
     ensures { result ≡ small_limit mode limits }
 {
     let connection = match mode {
         Mode::HandedOver => START_ALONE,
-        Mode::Pumped => START_ALONE + PUMPED_ALONE,
+        Mode::Pumped => START_ALONE + BUFFERS as u64,
     };
     let (data, addresses) = (DATA_ALONE + connection, ADDRESSES_ALONE + connection);
     let (counted, limit, wanted) = if limits.data < data {
@@ -171,9 +170,10 @@ pub fn small_limit(mode: Mode, limits: MemoryLimits) -> Option<SmallLimit>
     })
 }
 
-/// How many descriptors this process may open beside those that it has. Numbers from `most` on are not looked at: they count as taken.
-pub fn free_descriptors(most: u64) -> u64 {
-    let count = limit_on(DESCRIPTORS).min(most);
+// How many descriptors this process may open beside those that it has. Numbers from `most` on are not looked at: they
+// count as taken.
+fn free_descriptors(most: u64) -> u64 {
+    let count = limit_on(libc::RLIMIT_NOFILE).min(most);
     let mut free = 0u64;
     for block in 0..count.div_ceil(LOOKED) {
         let first = block.saturating_mul(LOOKED);
@@ -185,7 +185,7 @@ pub fn free_descriptors(most: u64) -> u64 {
     free
 }
 
-// How many of so many descriptors, at most `LOOKED`, are free; `None` where the system doesn't tell.
+// How many of so many descriptors, at most `LOOKED`, are free; `None` if the system doesn't tell.
 fn free_from(first: u64, count: u64) -> Option<u64> {
     let unlooked = pollfd {
         fd: -1,

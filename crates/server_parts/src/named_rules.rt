@@ -8,11 +8,11 @@ const MOST: u64 = 16 << 20;
 /// The bytes of a compiled file's header, which the records stand behind; the first four tell where they end.
 const HEADER: u64 = 2048;
 
-/// Of eight bytes, the first four as a number, where all are read as one.
+/// The first four of eight bytes as a number, if all eight are read as one.
 const FIRST: u64 = 0xFFFF_FFFF;
 
-/// Whether a rule of a compiled file (https://cr.yp.to/cdb/cdb.txt) has an address by a host's name, which has a `=`, or by a user's, which has a
-/// `@`, as far as that can be seen: records are looked through up to 16 MiB of the file, until one can't be read or finds no memory.
+/// Whether a compiled file (https://cr.yp.to/cdb/cdb.txt) has a rule by a host's name (`=`) or a user (`@`). It reads
+/// at most 16 MiB, and answers `false` if a record can't be read or there is no memory.
 pub(crate) fn has_named_rule<F: Read + Drop>(alloc: Global, file: F) -> bool {
     match BufReader::new(alloc, file) {
         Ok(mut reader) => has_name(&mut reader).unwrap_or(false),
@@ -20,8 +20,8 @@ pub(crate) fn has_named_rule<F: Read + Drop>(alloc: Global, file: F) -> bool {
     }
 }
 
-// Whether the key of a record has a `=` or a `@`. In front a record has the lengths of its key and of its value, of four bytes each: so there are
-// fewer records than bytes.
+// Whether the key of a record has a `=` or a `@`. A record begins with the lengths of its key and of its value, of four
+// bytes each: so there are fewer records than bytes.
 fn has_name<R: Read>(file: &mut R) -> io::Result<bool> {
     let mut bytes = [0; 8];
     file.read_exact(&mut bytes)?;

@@ -24,9 +24,14 @@ use tcp_connections::HostNames;
 /// The descriptor of standard error, the last of the standard ones.
 const STANDARD_ERROR: i32 = 2;
 
-/// Holds a standard descriptor, where the tool was started without it, so that no connection and no pipe to a program gets it: a line of
-/// the log would go there else. Without such a descriptor nothing is held.
-pub fn stand_in<F: Files<File = File>>(files: &F) -> Option<File> {
+/// If the tool was started without some of the three standard descriptors, holds them with `/dev/null`. Otherwise a
+/// connection or a pipe could get such a number, and lines of the log would go there.
+pub fn hold_standard<F: Files<File = File>>(files: &F) -> [Option<File>; 3] {
+    [stand_in(files), stand_in(files), stand_in(files)]
+}
+
+// The null device, if it gets the number of a standard descriptor.
+fn stand_in<F: Files<File = File>>(files: &F) -> Option<File> {
     let file = File::open(files, "/dev/null").ok()?;
     (file.as_raw_fd() <= STANDARD_ERROR).then_some(file)
 }
@@ -34,7 +39,7 @@ pub fn stand_in<F: Files<File = File>>(files: &F) -> Option<File> {
 /// The names of the ends of connections, with the host table that the words name.
 ///
 /// # Errors
-/// `ReadFault` where the table could not be read, `BadHosts` with the first bad line of it, `OutOfMemory`.
+/// `ReadFault` if the table could not be read, `BadHosts` with the first bad line of it, `OutOfMemory`.
 pub fn names_of<F: Files + AllocGlobal>(
     alloc: Global,
     files: &F,
@@ -81,10 +86,11 @@ fn read_hosts<F: Files + AllocGlobal>(
     }
 }
 
-/// The name of the rules file in its folder, which is looked at, with what is done where the file is missing; `None` without a rules file.
+/// The name of the rules file in its folder, which is looked at, with what is done if the file is missing; `None`
+/// without a rules file.
 ///
 /// # Errors
-/// `Device` where the folder can't be used, or the last part of the path is no name; `OutOfMemory`.
+/// `Device` if the folder can't be used, or the last part of the path is no name; `OutOfMemory`.
 pub fn find_rules<R: Files>(
     alloc: Global,
     files: &R,
@@ -117,8 +123,8 @@ pub fn find_rules<R: Files>(
     }
 }
 
-/// So many clients may wait with the system until they are accepted, or as many as it allows at all. Where fewer may, a burst of clients makes it
-/// send SYN cookies, and with them it may lose the first bytes that a client sends.
+/// So many clients may wait with the system until they are accepted, or as many as it allows at all. If fewer may, a
+/// burst of clients makes it send SYN cookies, and with them it may lose the first bytes that a client sends.
 const WAITING: i32 = 4096;
 
 /// A socket that listens at an address and port.
@@ -131,7 +137,7 @@ pub fn listen<R: Net>(net: &R, ip: [u8; 4], port: u16) -> Result<R::Listener, Se
     let end = SocketAddr::V4(SocketAddrV4::new(Ipv4Addr::from(ip), port));
     match TcpListener::bind(net, end) {
         Ok(listener) => {
-            // it listens; where that fails fewer clients may wait
+            // (it listens already; if this call fails, fewer clients may wait)
             let _ = libc::net::listen(listener.as_raw_fd(), WAITING);
             Ok(listener)
         }
@@ -142,7 +148,7 @@ pub fn listen<R: Net>(net: &R, ip: [u8; 4], port: u16) -> Result<R::Listener, Se
 /// Prints the port of a listening socket, as the system tells where it listens.
 ///
 /// # Errors
-/// `CannotListen` where the system doesn't tell it, `WriteFault` where it could not be printed.
+/// `CannotListen` if the system doesn't tell it, `WriteFault` if it could not be printed.
 pub fn print_port<R: Print>(rt: &R, end: &io::Result<SocketAddr>) -> Result<(), ServerFailure>
     ensures refused { IfErr result (λ failure. (failure.fault ≡ CannotListen) ⊎ (failure.fault ≡ WriteFault)) }
 {

@@ -21,7 +21,7 @@ pub type RulesOnDisk = OsFile<SystemFile>;
 pub struct RulesPath<'a, R> {
     // the system's files
     files: &'a R,
-    // empty where there is none
+    // empty if there is none
     path: &'a str,
     name: Option<&'a Name>,
 }
@@ -36,14 +36,11 @@ impl<'a, R: Files<File = File>> RulesPath<'a, R> {
         ensures path { rules_path result ≡ path_of words.now.rules }
         ensures name { rules_name result ≡ option_copied name.entry }
     {
-        let path = match words.rules() {
-            Some(path) => path,
-            None => "",
-        };
+        let path = words.rules().unwrap_or_default();
         RulesPath { files, path, name }
     }
 
-    /// The path as it was given; empty where there is none.
+    /// The path as it was given; empty if there is none.
     pub fn path(&self) -> &str
         ensures { result.now ≡ rules_path self.now }
     {
@@ -58,7 +55,7 @@ impl<'a, R: Files<File = File>> RulesPath<'a, R> {
     }
 
     /// Whether the file that stands there has a rule by name, as far as that can be seen.
-    pub fn name_someone(&self, alloc: Global) -> bool {
+    pub fn has_named_rule(&self, alloc: Global) -> bool {
         // (to open something other than a file may take for ever)
         let is_file = match self.files.metadata(self.path) {
             Ok(found) => found.is_file(),
@@ -96,7 +93,7 @@ impl<'a, R: Files<File = File>> RulesPath<'a, R> {
     }
 }
 
-// The first of a client's addresses under which the file of this name in a folder has something, where that is no
+// The first of a client's addresses under which the file of this name in a folder has something, if that is no
 // instruction.
 fn damaged_in<D: Dir + Drop>(alloc: Global, dir: D, name: &Name, peer: &Peer) -> Option<String> {
     let mut dir = dir;

@@ -11,7 +11,8 @@ const IGNORED: &[u8] = b"\nSigIgn:\t";
 /// The position of the digit that has the signals 17 to 20; its lowest bit is SIGCHLD.
 const DIGIT: usize = 11;
 
-/// Whether SIGCHLD is ignored, so that the system forgets how programs end. Where it does not tell so, it counts as not ignored.
+/// Whether SIGCHLD is ignored, so that the system forgets how programs end. If it does not tell, it counts as not
+/// ignored.
 pub fn forgets_programs<F: Files<File = File> + AllocGlobal>(files: &F) -> bool {
     let Ok(status) = fs::read(files, STATUS) else {
         return false;

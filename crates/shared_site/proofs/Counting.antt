@@ -1,5 +1,6 @@
 -- One more event.
-use Rattle.std.proofs.Common.{◌≡◌, ◌<◌, ◌+◌, ◌-◌, ◌^◌, ℕ, arith, inl, inr}
+use Rattle.std.proofs.Common.{◌≡◌, ◌≢◌, ◌<◌, ◌+◌, ◌-◌, ◌^◌, ℕ, arith, inl, inr}
+use Rattle.server_events.specs.Journals.{one_more}
 use Rattle.shared_site.specs.Receipts.{CountsAtMostOne}
 
 -- what all of them made is the number of events after a turn too
@@ -11,3 +12,7 @@ still_counted before total now n m was (inr one) fits grows = omega (arith, was,
 pub share_counted : (share now n m : ℕ) → CountsAtMostOne n m → n < 2 ^ 64 → now ≡ share + (m - n) → now + n ≡ share + m
 share_counted share now n m (inl same) fits grows = omega (arith, same, grows)
 share_counted share now n m (inr one) fits grows = omega (arith, one, fits, grows)
+
+-- below the last number one more event is the next
+pub exactly_next : (n m : ℕ) → n ≢ 2 ^ 64 - 1 → n < 2 ^ 64 → m ≡ one_more n → m ≡ n + 1
+exactly_next n m other fits one = omega (arith, other, fits, one)

@@ -1,6 +1,7 @@
 -- The callers of a site, their turns, and what these add to their shares.
 use Rattle.std.specs.Prelude.{◌≡◌, ◌+◌, ℕ}
 use Rattle.shared_site.specs.declared.caller.Caller.{Caller}
+use Rattle.shared_site.specs.declared.caller.NewCallers.{NewCallers}
 
 -- its number
 abbrev pub caller_number : {N : Type 0} {l : _} → Caller N l → ℕ
@@ -9,6 +10,10 @@ caller_number caller = caller.number
 -- how many events it made
 abbrev pub caller_share : {N : Type 0} {l : _} → Caller N l → ℕ
 caller_share caller = caller.share.amount
+
+-- how many callers nobody has yet
+abbrev pub new_count : {N : Type 0} {l : _} → NewCallers N l → ℕ
+new_count callers = callers.count
 
 -- a turn answered its caller after this many events, and the caller's share has grown by as many events as the turn
 -- made

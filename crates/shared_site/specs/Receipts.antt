@@ -1,6 +1,6 @@
--- What a caller gets for an event: evidence that it made it, or that it was out of turn, or why a client was not let in;
--- and the receipt.
-use Rattle.std.specs.Prelude.{⊤, ◌≡◌, ◌⊎◌, ℕ, List, Option, None, Some, Result, Ok, Err, IfOk, OnErr, length}
+-- What a caller gets for an event: evidence that it made it, or that it was out of turn, or why a client was not let
+-- in; and the receipt.
+use Rattle.std.specs.Prelude.{⊤, ◌≡◌, ◌≢◌, ◌⊎◌, ◌+◌, ◌-◌, ◌^◌, ℕ, List, Option, None, Some, Result, Ok, Err, IfOk, OnErr, length}
 use Rattle.rule_lookup.specs.Peers.{Client}
 use Rattle.server_events.specs.Journals.{one_more}
 use Rattle.server_events.specs.ServerState.{ServerState}
@@ -47,12 +47,13 @@ abbrev pub refused_as : {T : Type 0} → Result T Refusal → Option AdmitFault
 refused_as (Ok admitted) = None
 refused_as (Err refusal) = Some (refusal_fault refusal)
 
--- a server that is so lets no client from this address in, for this reason; memory may be short at any time
-abbrev pub Refuses : AdmitFault → (ip : List ℕ) → ServerState → Type 0
-Refuses Full ip server = length server.connections ≡ server.limit
-Refuses Spent ip server = IsSpent server
-Refuses FullForAddress ip server = IsAddressFull ip server
-Refuses OutOfMemory ip server = ⊤
+-- after so many events, a server that is so lets no client from this address in, for this reason: the last number of an
+-- event is given, or that of a connection; or it is not, and there is no place; memory may be short at any time
+abbrev pub Refuses : AdmitFault → (ip : List ℕ) → (events : ℕ) → ServerState → Type 0
+Refuses Spent ip events server = (events ≡ 2 ^ 64 - 1) ⊎ IsSpent server
+Refuses Full ip events server = (events ≢ 2 ^ 64 - 1) × (length server.connections ≡ server.limit)
+Refuses FullForAddress ip events server = (events ≢ 2 ^ 64 - 1) × IsAddressFull ip server
+Refuses OutOfMemory ip events server = ⊤
 
 -- a turn makes one event or none; a journal that only counts stays at its last number
 abbrev pub CountsAtMostOne : (old new : ℕ) → Type 0
@@ -66,5 +67,5 @@ MakesOrNot event who before (Err refusal) after = (refused_event refusal ≡ eve
 -- the caller with this number let this client in, by the next event after this many; or no event was made
 abbrev pub AdmitsOrNot : {P F : Type 0} → Client → (who before : ℕ) → Result (ℕ × P × Made) F → (after : ℕ) → Type 0
 AdmitsOrNot client who before answer after =
-    IfOk answer (λ r. (receipt_of r.2 ≡ receipt_after before who (Admitted r.0 client)) × (after ≡ one_more before))
+    IfOk answer (λ r. (receipt_of r.2 ≡ receipt_after before who (Admitted r.0 client)) × (after ≡ before + 1))
     × OnErr answer (after ≡ before)

@@ -13,7 +13,7 @@ pub mod ground;
 pub mod receipt;
 pub mod site;
 
-pub use caller::{Caller, Callers};
+pub use caller::{Caller, Callers, NewCallers};
 pub use ground::{CallerOf, Ground, YardOf};
 pub use receipt::{Made, OutOfTurn, Receipt, Refusal};
 pub use site::{Site, Turn};

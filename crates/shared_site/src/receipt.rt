@@ -88,7 +88,7 @@ pub struct Refusal {
 }
 
 impl Refusal {
-    ghost use Rattle.server_yard.specs.Yards.{yard_server};
+    ghost use Rattle.server_yard.specs.Yards.{yard_books, yard_server};
     ghost use Rattle.shared_site.specs.Receipts.{Refuses, refusal_fault};
 
     /// Why the client was not let in.
@@ -100,7 +100,7 @@ impl Refusal {
 
     // That this yard has not let a client in.
     pub(crate) fn of<G: Ground>(_yard: &YardOf<G>, _peer: &Peer, fault: AdmitFault) -> Refusal
-        requires reason { Refuses fault _peer.now.ip (yard_server _yard.now) }
+        requires reason { Refuses fault _peer.now.ip (yard_books _yard.now).count (yard_server _yard.now) }
         ensures { refusal_fault result ≡ fault }
     {
         Refusal { fault }

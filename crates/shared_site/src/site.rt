@@ -1,9 +1,10 @@
 //! The site: a yard under one lock, for many threads. A caller hands it a turn: a value that asks for one event.
 //!
-//! There is a type of turns for each event of a connection. A caller can't know whether its event is allowed now. So a
-//! turn notes its caller as the speaker, and tests whether the table of events allows the event. If it does, the turn
-//! makes the yard's call of its name, and answers which event that was. Otherwise nothing changed but the speaker. No
-//! turn waits or takes memory of its own.
+//! There is a type of turns for each event of a connection, and one for the three by which it goes. A caller can't know
+//! whether its event is allowed now. So a turn notes its caller as the speaker, and tests whether the table of events
+//! allows the event. If it does, the turn makes the yard's call of its name, and answers which event that was.
+//! Otherwise nothing changed but the speaker, and the place of a connection that was to go stays counted. No turn waits
+//! or takes memory of its own.
 //!
 //! `in_turn` says when a turn's event is made, and `makes` all that the turn then does, or leaves as it was. Such an
 //! event is a step over whatever directory other processes left (`server_yard::laws::noted_leads`).
@@ -15,21 +16,22 @@ ghost use Rattle.server_events.specs.declared.event.Stage.{Stage as StageOf};
 ghost use Rattle.server_yard.specs.Leavings.{leaving_event, may_leave};
 ghost use Rattle.server_yard.specs.Passes.{IsDecidedBy, finding_file, pass_missing, pass_serial};
 ghost use Rattle.server_yard.specs.Rolls.{IsQuiet};
-ghost use Rattle.server_yard.specs.Seating.{GivesSeat, IsAddressFull, IsSpent, KeepsSerials};
+ghost use Rattle.server_yard.specs.Seating.{GivesSeat, KeepsSerials};
 ghost use Rattle.server_yard.specs.Yards.{HasRun, IsRunOf, IsSameBeside, yard_books, yard_roll, yard_rules, yard_seat, yard_server};
 ghost use Rattle.server_yard.specs.declared.register.AdmitFault.TheVariants.{Full, FullForAddress, Spent};
-ghost use Rattle.shared_site.specs.Callers.{CountsForIts};
-ghost use Rattle.shared_site.specs.Receipts.{AdmitsOrNot, CountsAtMostOne, MakesOrNot, receipt_at, receipt_of, refused_as, shown_event};
+ghost use Rattle.shared_site.specs.Callers.{CountsForIts, new_count};
+ghost use Rattle.shared_site.specs.Receipts.{AdmitsOrNot, CountsAtMostOne, MakesOrNot, Refuses, receipt_at, receipt_of, refused_as, shown_event};
 ghost use Rattle.shared_site.specs.Turns.{Answers, IsAt, IsLastOf, IsPassedOver, Makes, MayBeDecided, NotesAs, NotesBy, OpensBy, spoken_by, told_if_admitted, told_if_made, told_if_opened, told_then};
 ghost use Rattle.std.specs.Prelude.{◌≡◌, ◌+◌, ◌↔◌, ⊤, Bool, Err, IfErr, IfOk, IfSome, IsOk, IsTrue, List, None, OnErr, OnOk, Option, Some, ℕ, false, is_ok, is_some, length, true};
 ghost use Rattle.server_events.specs.declared.event.Event.TheVariants as event;
 
+use crate::caller::NewCallers;
 use crate::ground::{CallerOf, Ground, YardOf};
 use crate::receipt::{EventSnapshot, Made, OutOfTurn, Refusal};
 use child_jobs::{Job, Place, Running};
 use rule_lookup::{Decision, Peer, Verdict};
 use server_events::{Event, Stage};
-use server_yard::{Finding, Leaving, Pass};
+use server_yard::{AdmitFault, Finding, Leaving, Pass};
 use std::snapshot::Snapshot;
 use std::sync::ledger::{Blank, Book, Share};
 use std::sync::{Mutex, Wait};
@@ -70,20 +72,19 @@ pub struct Site<G: Ground> {
 }
 
 impl<G: Ground> Site<G> {
-    /// A site, and the share of all its callers, which have made no event. Each caller gets a part of it.
-    pub fn new(blank: Blank, yard: YardOf<G>) -> (Site<G>, Share<G::Callers>)
+    /// A site, and so many callers, each with a part of `blank`. They have made no event.
+    pub fn new(blank: Blank, yard: YardOf<G>, callers: u64) -> (Site<G>, NewCallers<G::Callers>)
         requires name { blank.name ≡ G.Callers.name }
-        requires parts { blank.parts ≡ G.Callers.parts }
+        requires parts { (blank.parts ≡ G.Callers.parts) × (blank.parts ≡ callers) }
         requires before { G.Callers.before ≡ (yard_books yard).count }
-        ensures parts { result.1.parts ≡ G.Callers.parts }
-        ensures idle { result.1.amount ≡ 0 }
+        ensures callers { new_count result.1 ≡ callers }
     {
         yard.unbegun();
         let (events, share) = blank.open::<G::Callers>();
         let site = Site {
             guarded: Mutex::new(Guarded { yard, events }),
         };
-        (site, share)
+        (site, NewCallers::of(share, callers))
     }
 
     /// Makes a turn for a caller. It waits for the lock, runs the turn on the yard with the caller's number, and lets
@@ -117,7 +118,7 @@ pub trait Turn<G: Ground> {
     /// What it answers.
     type Answer;
 
-    /// What a yard has to be like before the turn may run.
+    /// What has to hold of the turn itself before it may run.
     ghost may: { Self → Type 0 };
 
     /// After this many events, run for the caller with this number, the turn may give this answer, and this many events
@@ -150,10 +151,10 @@ pub fn made<G: Ground>(yard: &YardOf<G>, caller: u64, event: EventSnapshot) -> M
     }
 }
 
-/// Lets a connection in, as `Yard::admit` does.
+/// Lets a connection in, as `Yard::admit` does, as long as the last number of an event is not given.
 ///
 /// # Errors
-/// Those of `Yard::admit`, as evidence.
+/// `Spent` if it is; otherwise those of `Yard::admit`. They are evidence. Nothing changed but the speaker.
 #[derive(Drop)]
 pub struct Admit<'a> {
     /// The client.
@@ -180,10 +181,11 @@ impl<G: Ground> Turn<G> for Admit<'_> {
             (told_if_admitted self.entry.peer.now result)
             (yard_roll yard.old) (yard_roll yard.new) }
         ensures full { (refused_as result ≡ Some Full)
-            ↔ (length (yard_server yard.old).connections ≡ (yard_server yard.old).limit) }
-        ensures spent { (refused_as result ≡ Some Spent) ↔ IsSpent (yard_server yard.old) }
+            ↔ Refuses Full self.entry.peer.now.ip (yard_books yard.old).count (yard_server yard.old) }
+        ensures spent { (refused_as result ≡ Some Spent)
+            ↔ Refuses Spent self.entry.peer.now.ip (yard_books yard.old).count (yard_server yard.old) }
         ensures full_for_address { (refused_as result ≡ Some FullForAddress)
-            ↔ IsAddressFull self.entry.peer.now.ip (yard_server yard.old) }
+            ↔ Refuses FullForAddress self.entry.peer.now.ip (yard_books yard.old).count (yard_server yard.old) }
         ensures noted { IfOk result (λ r. NotesBy
             caller (event.Admitted r.0 self.entry.peer.now) (yard_roll yard.old) (yard_roll yard.new)) }
         ensures seat { IfOk result (λ r. GivesSeat r.1 r.0 (yard_seat yard.old) (yard_seat yard.new)) }
@@ -194,6 +196,9 @@ impl<G: Ground> Turn<G> for Admit<'_> {
     {
         let Admit { peer } = self;
         yard.speaker(caller);
+        if yard.journal().events() == u64::MAX {
+            return Err(Refusal::of::<G>(yard, peer, AdmitFault::Spent));
+        }
         match yard.admit(peer) {
             Ok((serial, place)) => {
                 let event = EventSnapshot::Admitted(Snapshot::of(&serial), Snapshot::of(peer));
@@ -205,7 +210,8 @@ impl<G: Ground> Turn<G> for Admit<'_> {
 }
 
 /// Notes that a connection opened the rules by a handle of its own, as `Yard::opened` does. It has to be let in, and
-/// must not have opened them before. Otherwise nothing changes but the speaker, and what it found is dropped.
+/// must not have opened them before. Otherwise the answer is `None`: nothing changes but the speaker, and what it found
+/// is dropped.
 #[derive(Drop)]
 pub struct Opened<G: Ground> {
     /// The connection's serial.

@@ -45,7 +45,8 @@ abbrev pub AllFail : {J : Type 0} → Kills J → FailsToWait J → List Bool �
 AllFail kills fails [] job = Unit {0}
 AllFail {J} kills fails (by_force ∷ later) job = (next : J) × RoundFails kills fails by_force job next × AllFail kills fails later next
 
--- all but the last of these rounds failed, one after another, and the last one told how the program ended; those behind it did not come
+-- all but the last of these rounds failed, one after another, and the last one told how the program ended; those behind
+-- it did not come
 abbrev pub OneEnds : {J : Type 0} → Kills J → FailsToWait J → EndsAs J → List Bool → J → Status → Type 0
 OneEnds kills fails ends [] job status = ⊥
 OneEnds {J} kills fails ends (by_force ∷ later) job status =

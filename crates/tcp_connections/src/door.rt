@@ -1,33 +1,29 @@
 //! The door: the value under whose lock connections are accepted and let in.
 ghost use Rattle.std.specs.Option.{ForSome};
-ghost use Rattle.std.specs.Prelude.{◌≡◌, ◌≢◌, ◌⊎◌, ◌+◌, ◌≤◌, None, Some, true, false, IfSome, IsTrue, min};
-ghost use Rattle.tcp_connections.specs.Admissions.{EndsAtCount, LetsInAtMost, lacks};
-ghost use Rattle.tcp_connections.specs.declared.serving.ServeEnd.TheVariants.{AcceptFaults, Count, Spent};
+ghost use Rattle.std.specs.Prelude.{◌≡◌, ◌≢◌, ◌↔◌, ◌+◌, ◌≤◌, None, Some, false, IfSome, min, pos};
+ghost use Rattle.tcp_connections.specs.declared.serving.ServeEnd.TheVariants.{AcceptFaults, Count, Exhausted};
 
 use crate::accepting::{AcceptError, Acceptor};
 use crate::means::{Permit, pause_after};
 use crate::serving::{Refused, ServeEnd, Serving};
-use crate::supply::Supply;
 use std::time::Duration;
 
 /// So many faults of accepting in succession end a server.
 const MOST: u32 = 100;
 
-/// The system's numbers for want of descriptors (`EMFILE`) and of memory (`ENOMEM`).
-const TOO_MANY_OPEN_FILES: i32 = 24;
-
-const NO_MEMORY: i32 = 12;
+/// The system's number for want of descriptors (`EMFILE`).
+const TOO_MANY_FILES: i32 = 24;
 
 /// The faults of accepting that came in succession, since the last connection or since the server began. An error for
-/// want of room is none while a connection is served.
+/// want of room is no fault while a connection is served.
 #[derive(Clone, Copy)]
 pub struct Faults {
     /// How many, up to a hundred.
     pub count: u32,
     // how many errors were for want of room, faults or not
     lacking: u32,
-    /// The system's number of the last fault (`errno`), if it had one; or that of what there was too little of for one
-    /// connection.
+    /// The system's number of the last fault (`errno`), if it had one; or that for want of descriptors, if there were
+    /// too few for one connection.
     pub last: Option<i32>,
 }
 
@@ -44,18 +40,13 @@ impl Faults {
         }
     }
 
-    /// None came: there is too little for one connection. The system's number says of what.
-    pub(crate) fn of_too_little(supply: &Supply) -> Faults
+    /// None came: there are too few descriptors for one connection.
+    pub(crate) fn of_too_few_descriptors() -> Faults
         ensures none { result.count ≡ 0 }
-        ensures told { result.last ≡ Some (lacks supply.now) }
+        ensures told { result.last ≡ Some (pos 24) }
     {
-        let lacks = if supply.descriptors < supply.to_begin {
-            TOO_MANY_OPEN_FILES
-        } else {
-            NO_MEMORY
-        };
         Faults {
-            last: Some(lacks),
+            last: Some(TOO_MANY_FILES),
             ..Faults::none()
         }
     }
@@ -70,16 +61,16 @@ pub(crate) struct Door<A, V: Serving> {
     // how many more are let in before the server ends, if it ends by their number
     left: Option<u32>,
     // how it ended, if not by that
-    end: Option<ServeEnd>,
+    end: Option<ServeEnd<V::Spent>>,
     faults: Faults,
-    ghost within: { end ≢ Some Spent → ForSome left (λ more. V.count ≡ Some (V.let_in entrance + more)) },
+    ghost within: { ForSome left (λ more. V.count ≡ Some (V.let_in entrance + more)) },
     ghost endless: { left ≡ None → V.count ≡ None },
-    ghost otherwise: { end ≢ Some Count },
+    ghost otherwise: { (end ≢ Some Count) × (end ≢ Some Exhausted) },
     ghost by_faults: { end ≡ Some AcceptFaults → faults.count ≡ 100 },
 }
 
 impl<A: Acceptor<Came = V::Came> + Drop, V: Serving> Door<A, V> {
-    /// A door through which nobody came yet. The server ends once so many were let in.
+    /// A door through which nobody came yet. The server ends once `count` were let in.
     pub fn new(acceptor: A, entrance: V::Entrance, count: Option<u32>) -> Door<A, V>
         requires nobody { V.let_in entrance ≡ 0 }
         requires count { V.count ≡ count }
@@ -132,8 +123,8 @@ impl<A: Acceptor<Came = V::Came> + Drop, V: Serving> Door<A, V> {
                 Some(work)
             }
             Err(Refused::Once) => None,
-            Err(Refused::Spent) => {
-                self.end = Some(ServeEnd::Spent);
+            Err(Refused::Spent(spent)) => {
+                self.end = Some(ServeEnd::Spent(spent));
                 None
             }
         }
@@ -161,10 +152,9 @@ impl<A: Acceptor<Came = V::Came> + Drop, V: Serving> Door<A, V> {
     }
 
     /// How the server ended, its entrance, and the faults of accepting that came last. The acceptor is dropped.
-    pub fn into_end(self) -> (ServeEnd, V::Entrance, Faults)
-        ensures count { EndsAtCount result.0 V.count (V.let_in result.1) }
-        ensures no_more { LetsInAtMost result.0 V.count (V.let_in result.1) }
-        ensures reached { V.count ≡ Some (V.let_in result.1) → (result.0 ≡ Count) ⊎ (result.0 ≡ Spent) }
+    pub fn into_end(self) -> (ServeEnd<V::Spent>, V::Entrance, Faults)
+        ensures count { (result.0 ≡ Count) ↔ (V.count ≡ Some (V.let_in result.1)) }
+        ensures no_more { ForSome V.count (λ most. V.let_in result.1 ≤ most) }
         ensures kept { result.2 ≡ self.faults }
         ensures faults { result.0 ≡ AcceptFaults → result.2.count ≡ 100 }
     {
@@ -176,11 +166,10 @@ impl<A: Acceptor<Came = V::Came> + Drop, V: Serving> Door<A, V> {
             faults,
         } = self;
         drop(acceptor);
-        let end = match (end, left) {
-            (Some(ServeEnd::Spent), _) => ServeEnd::Spent,
-            (_, Some(0)) => ServeEnd::Count,
-            (end, _) => end.unwrap_or(ServeEnd::Exhausted),
-        };
-        (end, entrance, faults)
+        if left == Some(0) {
+            drop(end);
+            return (ServeEnd::Count, entrance, faults);
+        }
+        (end.unwrap_or(ServeEnd::Exhausted), entrance, faults)
     }
 }

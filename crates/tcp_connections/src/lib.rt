@@ -2,11 +2,11 @@
 //! and serve them, the start of a child, and the wait for its end.
 //!
 //! The server uses `Workers::serve_through`: if it ends by its count, it let in exactly that many. It alone starts
-//! threads. A connection is a value that each call of `Serving` passes on, or answers as over. Dropping a `GoingOn` ends
-//! the connection too. A worker accepts a connection and lets it in only with a `Permit`, under the lock of the `Door`.
-//! `wait_in_rounds` gives a place back only after a wait that succeeded. Only tests show that one more worker is made if
-//! none waits for a connection, that what a connection takes is there before it is taken, and that a hundred faults of
-//! accepting in succession end the server.
+//! threads. A connection is a value that each call of `Serving` passes on, or answers as over. Dropping a `GoingOn`
+//! ends the connection too. A worker accepts a connection and lets it in only with a `Permit`, under the lock of the
+//! `Door`. `wait_in_rounds` gives a place back only after a wait that succeeded. Only tests show that one more worker
+//! is made if none waits for a connection, that what a connection takes is there before it is taken, and that a hundred
+//! faults of accepting in succession end the server.
 #![tactic(auto)]
 
 pub mod accepting;
@@ -22,9 +22,10 @@ pub mod workers;
 
 pub use accepting::{AcceptError, Accepted, Acceptor};
 pub use door::Faults;
+pub use means::pause_after;
 pub use names::HostNames;
 pub use rounds::wait_in_rounds;
 pub use serving::{Refused, ServeEnd, Serving};
-pub use starting::{ConnectionLauncher, Starter};
+pub use starting::{ConnectionLauncher, Greeter, Starter};
 pub use supply::{Memory, Reserve, Supply};
 pub use workers::Workers;

@@ -3,8 +3,8 @@ use crate::supply::Supply;
 use std::sync::{Condvar, CondvarTimeouts, Mutex, MutexGuard, Wait};
 use std::time::{Clock, Duration};
 
-/// How many milliseconds a server waits before it tries again for what it lacks, at first and at most. Each pause is twice
-/// the one before it, for so many times: a hundred in succession take over a minute.
+/// How many milliseconds a server waits before it tries again for what the system lacks, at first and at most. Each
+/// pause is twice the one before it, up to the longest.
 const FIRST_PAUSE: u64 = 10;
 
 const LONGEST_PAUSE: u64 = 1_000;
@@ -50,15 +50,15 @@ struct Held {
     is_over: bool,
 }
 
-/// The right to one connection: there is what it takes. A worker has it before it accepts one, and it is given back once
-/// that one is over.
+/// The right to one connection: there is what it takes. A worker has it before it accepts one, and it is given back
+/// once that one is over.
 pub(crate) struct Permit {
     // whether the connection has no program yet
     begins: bool,
 }
 
 /// How long something is not tried again that has failed so often in succession.
-pub(crate) fn pause_after(failures: u32) -> Duration {
+pub fn pause_after(failures: u32) -> Duration {
     let longer = FIRST_PAUSE << failures.saturating_sub(1).min(DOUBLED);
     Duration::from_millis(longer.min(LONGEST_PAUSE))
 }
@@ -85,8 +85,8 @@ impl Held {
             && !(self.is_expected && supply.memory.is_some())
     }
 
-    // Whether nobody more can be let in, where so many may be alive: the server is over, all are retired, or there is no
-    // worker, and there can be none.
+    // Whether nobody more can be let in, where so many may be alive: the server is over, all are retired, or there is
+    // no worker, and there can be none.
     fn has_ended(&self, most: u64) -> bool {
         let has_no_worker = self.workers == 0 && self.failures >= TRIES;
         self.is_over || self.retired >= most || has_no_worker
@@ -156,8 +156,8 @@ impl Means {
         self.free(held);
     }
 
-    /// The program of a connection runs: what it took only for its start is free again. Whether it is one of many is told
-    /// beside what it has still.
+    /// The program of a connection runs: what it took only for its start is free again. The answer also says whether it
+    /// is one of many.
     pub fn began<R: Wait>(&self, rt: &R, permit: Permit) -> (Permit, bool) {
         let mut held = self.held.lock(rt);
         held.take_back(permit);
@@ -166,7 +166,7 @@ impl Means {
         (Permit { begins: false }, is_one_of_many)
     }
 
-    /// A connection did not come, was not let in, or is over, or it is retired: then its room is never free again.
+    /// A connection is over, or never began. The room of a retired one is never free again.
     pub fn give_back<R: Wait>(&self, rt: &R, permit: Permit, is_retired: bool) {
         let mut held = self.held.lock(rt);
         held.take_back(permit);
@@ -204,8 +204,8 @@ impl Means {
         );
     }
 
-    /// Waits until it is known whether the last worker stays, for a while if none could be made last, and until one more is
-    /// wanted. `false` once nobody more can be let in.
+    /// Waits until one more worker is wanted. Before that it waits for the answer of the last new worker, and pauses if
+    /// none could be made. `false` once nobody more can be let in.
     pub fn wait_for_want<R: Wait + Clock>(&self, rt: &R) -> bool {
         let most = self.most;
         let mut held = self
@@ -224,10 +224,10 @@ impl Means {
         !held.has_ended(most)
     }
 
-    /// A worker is to be made: it counts as one that is at the door. It answers how many there are with it, and how many
-    /// connections have no program yet. If memory is limited, it first waits until each has one, and lets none begin until
-    /// it is known whether the worker stays. So a look for memory takes none that they need. `None` once nobody more can
-    /// be let in.
+    /// A worker is to be made: it counts as one that is at the door. It answers how many there are with it, and how
+    /// many connections have no program yet. If memory is limited, it first waits until each has one, and lets none
+    /// begin until it is known whether the worker stays. So a look for memory takes none that they need. `None` once
+    /// nobody more can be let in.
     pub fn expect_worker<R: Wait>(&self, rt: &R) -> Option<(u64, u64)> {
         let (most, is_limited) = (self.most, self.supply.memory.is_some());
         let mut held = self.freed.wait_while(rt, self.held.lock(rt), |held| {

@@ -2,26 +2,26 @@
 ghost use Rattle.std.specs.Prelude.{◌≡◌, ℕ, Bool, Option, IfOk};
 ghost use Rattle.tcp_connections.specs.Admissions.{LetsIn};
 
-/// How a server ended.
-#[derive(Clone, Copy)]
-pub enum ServeEnd {
+/// How a server ended. An `S` is evidence that nobody can be let in any more.
+#[derive(Drop)]
+pub enum ServeEnd<S> {
     /// It let in as many connections as it was to serve.
     Count,
     /// A connection was refused, and so would be all that follow.
-    Spent,
-    /// A hundred faults of accepting came in succession, or there was too little for one connection from the start.
+    Spent(S),
+    /// A hundred faults of accepting came in succession, or there were too few descriptors for one connection.
     AcceptFaults,
     /// Nobody more can be served: all places are retired, or there was no memory or no thread for it.
     Exhausted,
 }
 
-/// That a connection was refused.
-#[derive(Clone, Copy)]
-pub enum Refused {
+/// That a connection was refused. An `S` is evidence that nobody can be let in any more.
+#[derive(Drop)]
+pub enum Refused<S> {
     /// Only this one was: others may be let in.
     Once,
     /// This one was, and so are all that follow.
-    Spent,
+    Spent(S),
 }
 
 /// Lets connections in, and serves them. A connection is a value that each call takes, and gives on to the next.
@@ -31,6 +31,9 @@ pub trait Serving {
 
     /// What lets connections in, one after another.
     type Entrance: Send + Drop;
+
+    /// Evidence that nobody can be let in any more: only a refusal makes one.
+    type Spent: Send + Drop;
 
     /// A connection that was let in.
     type Work;
@@ -57,7 +60,11 @@ pub trait Serving {
     ///
     /// # Errors
     /// It was refused, and is closed.
-    fn admit(&self, entrance: &mut Self::Entrance, came: Self::Came) -> Result<Self::Work, Refused>
+    fn admit(
+        &self,
+        entrance: &mut Self::Entrance,
+        came: Self::Came,
+    ) -> Result<Self::Work, Refused<Self::Spent>>
         ensures its { IfOk result (is_its self.now came) }
         ensures came { LetsIn result (let_in entrance.old) (let_in entrance.new) };
 

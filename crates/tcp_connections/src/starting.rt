@@ -34,7 +34,7 @@ pub trait Starter<X> {
     /// Starts a program for a connection, with these variables and no others.
     ///
     /// # Errors
-    /// Those of `Launcher::start`. Nothing runs then.
+    /// Those of `Launcher::start`. Nothing runs then, and the connection may be closed.
     fn start_for(
         &self,
         alloc: Global,
@@ -48,7 +48,7 @@ pub trait Starter<X> {
         ensures environment { IfOk result (λ job. Self.Job.environment job ≡ environment.now) };
 }
 
-/// The launcher of one connection, whose program it starts once. What is written to it the client is sent.
+/// The launcher of one connection, whose program it starts once.
 #[derive(Drop)]
 pub struct ConnectionLauncher<'a, S, X> {
     /// Starts its program.
@@ -75,7 +75,16 @@ impl<S: Starter<X>, X> Launcher for ConnectionLauncher<'_, S, X> {
     }
 }
 
-impl<S: Starter<X>, X> Write for ConnectionLauncher<'_, S, X> {
+/// A writer to the client of one connection.
+#[derive(Drop)]
+pub struct Greeter<'a, S, X> {
+    /// Starts its program.
+    pub starter: &'a S,
+    /// The connection itself.
+    pub connection: &'a X,
+}
+
+impl<S: Starter<X>, X> Write for Greeter<'_, S, X> {
     fn write(&mut self, buf: &[u8]) -> io::Result<usize> {
         self.starter.send(self.connection, buf)
     }

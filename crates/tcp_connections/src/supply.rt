@@ -12,6 +12,9 @@ const MORE: usize = 8 * 1024;
 /// What a thread takes of address space, in bytes: its stack, and what guards it.
 const THREAD: usize = 192 * 1024;
 
+/// So many connections may be at once whose child does not run yet, if memory is limited and not low.
+const AT_ONCE: usize = 4;
+
 /// What the system gives a server for its connections, and what each of them takes. The server takes a connection only
 /// once there is all that it may take.
 #[derive(Clone, Copy)]
@@ -29,19 +32,26 @@ pub struct Supply {
 /// What connections take of limited memory, in bytes.
 #[derive(Clone, Copy)]
 pub struct Memory {
-    /// How many connections may be at once whose child does not run yet.
-    pub at_once: u64,
-    /// What all of these take together, at most.
+    /// Whether it is low: then one connection at a time begins, and threads are saved.
+    pub is_low: bool,
+    /// What one connection takes until its child runs, at most.
     pub to_begin: usize,
     /// What one connection whose child runs takes, at most.
     pub to_go_on: usize,
+}
+
+impl Memory {
+    /// So many connections may be at once whose child does not run yet.
+    pub fn at_once(&self) -> usize {
+        if self.is_low { 1 } else { AT_ONCE }
+    }
 }
 
 impl Supply {
     // How many connections may be at once whose child does not run yet.
     pub(crate) fn at_once(&self) -> u64 {
         match self.memory {
-            Some(memory) => memory.at_once,
+            Some(memory) => memory.at_once() as u64,
             None => u64::MAX,
         }
     }
@@ -50,16 +60,12 @@ impl Supply {
     pub(crate) fn suffices(&self) -> bool
         ensures { result ≡ suffices self.now }
     {
-        let begins = match self.memory {
-            Some(memory) => memory.at_once > 0,
-            None => true,
-        };
-        self.to_begin <= self.descriptors && begins
+        self.to_begin <= self.descriptors
     }
 
-    // Whether there is memory for a thread that only waits: it is low if one connection begins at a time.
+    // Whether there is memory for a thread that only waits.
     pub(crate) fn has_reserve(&self) -> bool {
-        self.at_once() > 1
+        !self.memory.is_some_and(|memory| memory.is_low)
     }
 }
 
@@ -87,13 +93,14 @@ impl MemoryLook {
         self.supply.memory.is_some()
     }
 
-    /// Whether there is memory for the connections of this many workers, unless it is low.
+    /// Whether there is memory for the connections of this many workers. If memory is low, `has_stack` has looked
+    /// already.
     pub fn has_connections(&self, workers: usize) -> bool {
         !self.supply.has_reserve() || self.has(workers, 0)
     }
 
-    /// Whether there is memory for the thread of one more worker too, if it is low. The C library keeps what threads
-    /// took that are over, and a program would lack it.
+    /// Whether there is memory for one more worker's thread and for all connections. This looks only if memory is low:
+    /// the C library keeps what threads took that are over, and a program would lack it.
     pub fn has_stack(&self, workers: usize) -> bool {
         self.supply.has_reserve() || self.has(workers, THREAD)
     }
@@ -109,7 +116,7 @@ impl MemoryLook {
         let all = memory
             .to_go_on
             .saturating_mul(workers)
-            .saturating_add(memory.to_begin)
+            .saturating_add(memory.to_begin.saturating_mul(memory.at_once()))
             .saturating_add(beside)
             .max(more);
         let is_there = Vec::<u8>::with_capacity(self.alloc, all).is_ok();
@@ -128,8 +135,9 @@ impl MemoryLook {
 }
 
 /// A process that is kept in reserve, as a thread that waits: the system counts threads and processes together. If a
-/// program finds no process, the reserve is given back, for good. From then on the server looks whether there are
-/// processes before it makes a thread. If memory is low, there is no reserve from the start.
+/// program finds no process, the reserve is given back, for good. From then on a new worker stays only if there are
+/// processes for programs, and connections get no threads of their own. If memory is low, there is no reserve from the
+/// start.
 #[derive(Drop)]
 pub struct Reserve {
     is_gone: Mutex<bool>,

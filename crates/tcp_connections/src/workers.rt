@@ -1,8 +1,9 @@
 //! Workers: each lets one connection after another in, and serves it up to the start of its program or to its end.
-ghost use Rattle.std.specs.Prelude.{◌≡◌, ◌⊎◌, false, IsTrue, Some};
+ghost use Rattle.std.specs.Option.{ForSome};
+ghost use Rattle.std.specs.Prelude.{◌≡◌, ◌≤◌, false, IsTrue, Some, pos};
 ghost use Rattle.std.specs.Thread.{IsSend, IsSync};
-ghost use Rattle.tcp_connections.specs.Admissions.{EndsAtCount, FailedToAccept, LetsInAtMost, lacks, suffices};
-ghost use Rattle.tcp_connections.specs.declared.serving.ServeEnd.TheVariants.{AcceptFaults, Count, Spent};
+ghost use Rattle.tcp_connections.specs.Admissions.{FailedToAccept, suffices};
+ghost use Rattle.tcp_connections.specs.declared.serving.ServeEnd.TheVariants.{AcceptFaults, Count};
 
 use crate::accepting::{AcceptError, Acceptor};
 use crate::door::{Door, Faults};
@@ -16,7 +17,7 @@ use std::thread;
 use std::thread::{Scope, Threads};
 use std::time::Clock;
 
-/// For at most this many programs, the server looks whether there are processes before it makes a worker. If there are
+/// For at most this many programs, the server looks whether there are processes before a new worker stays. If there are
 /// too few, the last programs wait for those before them.
 const PROCESSES: u64 = 4;
 
@@ -46,14 +47,13 @@ where
     A: Acceptor<Came = V::Came> + Send + Drop,
 {
     /// Lets connections of `acceptor` in until `count` were let in or no more can be. Then it drops the acceptor, waits
-    /// until all that were let in are over, and gives `entrance` back with the faults of accepting that came last. At most
-    /// `most` connections are alive at once. Each worker accepts one, lets it in, and serves it until its program runs. It
-    /// goes on with few itself, and with one of many a thread does that ends with it. This thread makes one more worker
-    /// whenever none waits for a connection.
+    /// until all that were let in are over, and gives `entrance` back with the faults of accepting that came last. At
+    /// most `most` connections are alive at once. Each worker accepts one, lets it in, and serves it until its program
+    /// runs. While few are served, the worker waits for that program too. Otherwise a new thread does, and ends with
+    /// the connection. This thread makes one more worker whenever none waits for a connection.
     ///
     /// The count begins at 0, since nobody was let in by `entrance` before. By faults of accepting it ends only if a
-    /// hundred came since the last connection, or if `supply` doesn't suffice for one connection: then the last fault is
-    /// that of what there is too little of.
+    /// hundred came since the last connection, or if `supply` has too few descriptors for one connection.
     pub fn serve_through(
         rt: &'a R,
         alloc: Global,
@@ -64,22 +64,21 @@ where
         count: Option<u32>,
         supply: Supply,
         reserve: &'a Reserve,
-    ) -> (ServeEnd, V::Entrance, Faults)
+    ) -> (ServeEnd<V::Spent>, V::Entrance, Faults)
         requires nobody { V.let_in entrance ≡ 0 }
         requires count { V.count ≡ count }
-        ensures count { EndsAtCount result.0 count (V.let_in result.1) }
-        ensures no_more { LetsInAtMost result.0 count (V.let_in result.1) }
-        ensures reached { IsTrue (suffices supply) → count ≡ Some (V.let_in result.1)
-            → (result.0 ≡ Count) ⊎ (result.0 ≡ Spent) }
+        ensures count { result.0 ≡ Count → count ≡ Some (V.let_in result.1) }
+        ensures no_more { ForSome count (λ most. V.let_in result.1 ≤ most) }
+        ensures reached { IsTrue (suffices supply) → count ≡ Some (V.let_in result.1) → result.0 ≡ Count }
         ensures faults { result.0 ≡ AcceptFaults → FailedToAccept (suffices supply) result.2.count }
-        ensures lacking { suffices supply ≡ false → result.2.last ≡ Some (lacks supply) }
+        ensures lacking { suffices supply ≡ false → result.2.last ≡ Some (pos 24) }
     {
         if !supply.suffices() {
             drop(acceptor);
             return (
                 ServeEnd::AcceptFaults,
                 entrance,
-                Faults::of_too_little(&supply),
+                Faults::of_too_few_descriptors(),
             );
         }
         let means = Means::new(supply, most);
@@ -104,8 +103,8 @@ where
             thread::scope_env(),
             workers.rt,
             move |scope|
-                requires { IsSync R.row × IsSync V.row × IsSend V.Entrance.row × IsSend V.Alive.row
-                    × IsSend A.row }
+                requires { IsSync R.row × IsSync V.row × IsSend V.Entrance.row × IsSend V.Spent.row
+                    × IsSend V.Alive.row × IsSend A.row }
             {
                 if !workers.has_reserve || !start_waiting(scope, workers.rt, workers.reserve) {
                     workers.reserve.give_back(workers.rt);
@@ -150,14 +149,15 @@ where
             .spawn_scoped(
                 scope,
                 move ||
-                    requires { IsSync R.row × IsSync V.row × IsSend V.Entrance.row × IsSend V.Alive.row
-                        × IsSend A.row }
+                    requires { IsSync R.row × IsSync V.row × IsSend V.Entrance.row × IsSend V.Spent.row
+                        × IsSend V.Alive.row × IsSend A.row }
                 { workers.come_to_work(scope, number, beginning) },
             )
             .is_ok()
     }
 
-    // A new worker stays if there is what the connections of so many workers take beside those that begin. Then it works.
+    // A new worker stays if there is what the connections of so many workers take beside those that begin. Then it
+    // works.
     fn come_to_work<'s, 'e>(&'s self, scope: &'s Scope<'s, &'e ()>, number: usize, beginning: u64) {
         self.memory.begin_thread();
         let stays = self.memory.has_connections(number)
@@ -186,8 +186,8 @@ where
         self.means.wait_for_ends(self.rt);
     }
 
-    // Waits for the lock of the door, for what a connection takes, and for a connection that is let in. `None` once nobody
-    // is let in any more.
+    // Waits for the lock of the door, for what a connection takes, and for a connection that is let in. `None` once
+    // nobody is let in any more.
     fn let_in(&self) -> Option<(Permit, V::Work)> {
         let mut door = self.door.lock(self.rt);
         for _ in self.rt.forever() {
@@ -239,8 +239,8 @@ where
         door.close();
     }
 
-    // Goes on with a connection to its end. With one of many a thread goes on, if there is one, which takes far less of a
-    // stack than a worker.
+    // Goes on with a connection to its end. With one of many a thread goes on, if there is one, which takes far less of
+    // a stack than a worker.
     fn go_on<'s, 'e>(&'s self, scope: &'s Scope<'s, &'e ()>, permit: Permit, alive: V::Alive) {
         let (permit, is_one_of_many) = self.means.began(self.rt, permit);
         let going_on = GoingOn {

@@ -1,4 +1,4 @@
 pub mod Asked
+pub mod Found
+pub mod Served
 pub mod Shares
-pub mod Told
-pub mod FoundLemmas

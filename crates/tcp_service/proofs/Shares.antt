@@ -1,17 +1,13 @@
 -- What an admission adds to the share of its caller.
-use Rattle.std.proofs.Common.{◌≡◌, ◌≢◌, ◌+◌, ◌-◌, ◌^◌, ℕ, ap, arith}
-use Rattle.server_events.specs.Journals.{one_more}
+use Rattle.std.proofs.Common.{◌≡◌, ◌+◌, ℕ, ap, arith}
 use Rattle.server_events.specs.declared.event.Event.{Event}
 use Rattle.shared_site.specs.Receipts.{made_event, receipt_after, receipt_of}
 use Rattle.shared_site.specs.declared.receipt.Made.{Made}
 use Rattle.shared_site.specs.declared.receipt.Receipt.{Receipt}
 
--- the share of one whose event was made, where it has not the last number of all
-pub one_came : (made : Made) (event : Event) (who before after old new : ℕ) → receipt_of made ≡ receipt_after before who event → (receipt_of made).at ≢ 2 ^ 64 - 1
-    → after ≡ one_more before → new + before ≡ old + after → new ≡ old + 1
-one_came made event who before after old new is other then counted =
-    let at : (receipt_of made).at ≡ one_more before = ap (λ (r : Receipt). r.at) is in
-    omega (arith, at, other, then, counted)
+-- the share of one whose event was made
+pub one_came : (before after old new : ℕ) → after ≡ before + 1 → new + before ≡ old + after → new ≡ old + 1
+one_came before after old new then counted = omega (arith, then, counted)
 
 -- and of one without an event
 pub none_came : (before after old new : ℕ) → after ≡ before → new + before ≡ old + after → new ≡ old

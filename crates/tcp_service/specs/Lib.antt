@@ -1,4 +1,6 @@
--- What is let in, a caller of a site as the agent of one connection, and what was told last of that.
+-- What is let in, what a connection finds, how it is served, and what was told last of it.
 pub mod Accepting
-pub mod Agents
+pub mod Ends
 pub mod Lives
+pub mod Openings
+pub mod Servings

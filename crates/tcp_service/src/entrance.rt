@@ -1,19 +1,20 @@
 //! How a connection that was accepted is let in: named and counted.
 ghost use Rattle.std.specs.Prelude.{◌≡◌, ⊤, IfSome};
 ghost use Rattle.shared_site.specs.Callers.{caller_share};
-ghost use Rattle.shared_site.specs.Receipts.{AdmitsOrNot};
+ghost use Rattle.server_yard.specs.declared.register.AdmitFault.TheVariants.{Spent};
+ghost use Rattle.shared_site.specs.Receipts.{AdmitsOrNot, refusal_fault};
 ghost use Rattle.shared_site.specs.Turns.{told_if_admitted};
 ghost use Rattle.tcp_connections.specs.Admissions.{LetsIn};
 ghost use Rattle.tcp_connections.specs.Names.{client_at, local_at};
 ghost use Rattle.tcp_service.specs.Lives.{AdmitsOwn};
 
-use crate::host::AgentGround;
-use crate::server::AgentContext;
-use child_jobs::{DropCause, Local, Place};
+use crate::host::ServiceGround;
+use crate::server::Context;
+use child_jobs::{Local, Place};
 use rule_lookup::Peer;
 use server_log::{Log, Told};
-use server_yard::{AdmitFault, Leaving};
-use shared_site::site::{Admit, Left};
+use server_yard::AdmitFault;
+use shared_site::site::Admit;
 use shared_site::{CallerOf, Ground, Made, Refusal, Turn, YardOf};
 use std::alloc::Global;
 use std::sync::Mutex;
@@ -33,36 +34,32 @@ pub(crate) fn ends_of<X>(
     Some((peer, local))
 }
 
-/// Counts a connection, by a caller of the site that makes no other events: its share is how many were let in. It gives a
-/// serial and a place. Once the last number of a connection or of an event is given, nobody is let in any more.
+/// Evidence that no number is left for a connection or an event, so that nobody can be let in any more.
+#[derive(Drop)]
+pub struct NoNumbers {
+    refusal: Refusal,
+    ghost spent: { refusal_fault refusal ≡ Spent },
+}
+
+/// Counts a connection, by a caller of the site that makes no other events: its share is how many were let in. It gives
+/// a serial and a place.
 ///
 /// # Errors
-/// It was refused.
+/// It was refused. Nobody was let in.
 #[tactic(auto, using(crate::proofs::Shares::one_came, crate::proofs::Shares::none_came, crate::proofs::Shares::own_came))]
-pub(crate) fn admit<G: AgentGround>(
-    context: &AgentContext<'_, G>,
+pub(crate) fn admit<G: ServiceGround>(
+    context: &Context<'_, G>,
     admitter: &mut CallerOf<G>,
     peer: &Peer,
-) -> Result<AdmittedBy<G>, Refused>
+) -> Result<AdmittedBy<G>, Refused<NoNumbers>>
     ensures came { LetsIn result (caller_share admitter.old) (caller_share admitter.new) }
     ensures own { AdmitsOwn result peer.now }
 {
     let (rt, site, log) = (context.rt, context.site, context.log);
     match site.turn(rt, admitter, TellingAdmission::<G> { peer, rt, log }) {
-        Ok((serial, place, made)) => {
-            if made.at() == u64::MAX {
-                let turn = Left::<G> {
-                    serial,
-                    place,
-                    leaving: Leaving::Dropped(DropCause::Memory),
-                };
-                let _ = site.turn(rt, admitter, turn);
-                return Err(Refused::Spent);
-            }
-            Ok((serial, place, made))
-        }
+        Ok(admitted) => Ok(admitted),
         Err(refusal) => match refusal.fault() {
-            AdmitFault::Spent => Err(Refused::Spent),
+            AdmitFault::Spent => Err(Refused::Spent(NoNumbers { refusal })),
             _ => Err(Refused::Once),
         },
     }
@@ -72,13 +69,13 @@ pub(crate) fn admit<G: AgentGround>(
 pub(crate) type AdmittedBy<G> = (u64, Place<<G as Ground>::Places>, Made);
 
 // Lets a connection in, or tells why it is refused, before the turn is over.
-struct TellingAdmission<'a, G: AgentGround> {
+struct TellingAdmission<'a, G: ServiceGround> {
     peer: &'a Peer,
     rt: &'a G::Runtime,
     log: &'a Mutex<Log<G::Lines>>,
 }
 
-impl<G: AgentGround> Turn<G> for TellingAdmission<'_, G> {
+impl<G: ServiceGround> Turn<G> for TellingAdmission<'_, G> {
     type Answer = Result<AdmittedBy<G>, Refusal>;
 
     ghost may = { λ _. ⊤ };
@@ -95,8 +92,8 @@ impl<G: AgentGround> Turn<G> for TellingAdmission<'_, G> {
     }
 }
 
-// Tells of a connection that was let in, or why it was refused, if that has a line. So many are alive.
-fn tell_admission<G: AgentGround>(
+// Tells of a connection that was let in, or why it was refused, if that has a line. `live` connections are alive.
+fn tell_admission<G: ServiceGround>(
     rt: &G::Runtime,
     log: &Mutex<Log<G::Lines>>,
     peer: &Peer,

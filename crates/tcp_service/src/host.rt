@@ -13,9 +13,9 @@ use std::io::Write;
 use std::sync::Wait;
 use tcp_connections::Starter;
 
-/// What the agents of a server's connections stand on: the runtime, the rules and the log, beside the ground of their
+/// What a server's connections are decided and told by: the runtime, the rules and the log, beside the ground of their
 /// site. It is a name for these types together, and has no values.
-pub trait AgentGround: Ground {
+pub trait ServiceGround: Ground {
     /// The runtime.
     type Runtime: Wait;
 
@@ -29,15 +29,13 @@ pub trait AgentGround: Ground {
     type Lines: Write;
 }
 
-/// What a server stands on: a type for each thing that its connections are served with, beside what their agents stand
-/// on. A host is a name for these types together, and has no values. Where connections come from is a
-/// parameter beside it.
+/// What a server stands on: a type for each thing that its connections are served with. A host is a name for these
+/// types together, and has no values. Where connections come from is a parameter beside it.
 ///
-/// Each type costs the check of each function over a host some time. So what agents need is a trait of its own.
-///
-/// Which of these things threads share (`Sync`) and give one another (`Send`) is said where threads are started, and
-/// not here: the check does not take a call in a method of a trait where what is called says so in its bounds.
-pub trait Host: AgentGround {
+/// Each type costs the check of each function over a host some time, so most functions are over a `ServiceGround`.
+/// `Sync` and `Send` are asked for where threads start: the prover takes no method of a trait that calls a function
+/// with such a bound.
+pub trait Host: ServiceGround {
     /// A connection, which is closed once it is let go.
     type Connection: Drop;
 

@@ -22,7 +22,7 @@ pub(crate) enum Reason {
 }
 
 impl Reason {
-    /// The line of it, for rules at this path.
+    /// The cause for the log, for rules at this path.
     pub(crate) fn cause<'a>(&'a self, rules: &'a str) -> Cause<'a> {
         match self {
             Reason::Rules(why) => Cause::new(rules.as_bytes(), why.as_str()),
@@ -36,7 +36,7 @@ pub(crate) fn words_of(alloc: Global, error: Option<i32>) -> Option<String> {
     words_of_error(alloc, error?).ok()
 }
 
-/// What a person is told of a connection that was denied since there is no rules file.
+/// What a person is told of a connection that was denied because there is no rules file.
 pub(crate) fn cause_of_absence<'a>(rules: &'a str, decision: &Decision) -> Option<Cause<'a>> {
     match (decision.verdict, &decision.found) {
         (Verdict::Deny, Found::NoFile) => Some(Cause::new(rules.as_bytes(), ABSENT)),
@@ -44,7 +44,7 @@ pub(crate) fn cause_of_absence<'a>(rules: &'a str, decision: &Decision) -> Optio
     }
 }
 
-/// What a person is told of a connection that was given up since the rules file is damaged.
+/// What a person is told of a connection that was given up because the rules file is damaged.
 pub(crate) fn cause_of_damage(rules: &str, cause: DropCause) -> Option<Cause<'_>> {
     match cause {
         DropCause::Damaged => Some(Cause::new(rules.as_bytes(), DAMAGED)),

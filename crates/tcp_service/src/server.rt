@@ -1,8 +1,8 @@
 //! What all connections of a server share.
-ghost use Rattle.tcp_service.specs.Agents.{IsFoundFor};
-ghost use Rattle.tcp_service.specs.Lives.{MayStartEach};
+ghost use Rattle.tcp_service.specs.Openings.{IsFoundFor};
+ghost use Rattle.tcp_service.specs.Servings.{MayStartEach};
 
-use crate::host::{AgentGround, Host};
+use crate::host::{Host, ServiceGround};
 use child_jobs::Plan;
 use server_log::Log;
 use server_words::ConnectionLimits;
@@ -11,36 +11,43 @@ use std::alloc::Global;
 use std::sync::Mutex;
 use tcp_connections::{HostNames, Reserve, Supply};
 
-/// What the agents of all connections share: the site with the caller that tells it their events, the plan, the rules
-/// and the log.
+/// What all connections of a server are decided and told by.
 #[derive(Drop)]
-pub struct AgentContext<'a, G: AgentGround> {
+pub struct Context<'a, G: ServiceGround> {
+    /// The runtime.
     pub rt: &'a G::Runtime,
+    /// What gives memory.
     pub alloc: Global,
+    /// Where their events are made.
     pub site: &'a Site<G>,
     /// The caller of the site that makes all events but admissions.
     pub teller: &'a Mutex<CallerOf<G>>,
+    /// The rules, which each connection opens for itself.
     pub rules: &'a G::Rules,
+    /// The program, its variables and the banner.
     pub plan: &'a Plan,
+    /// The log. It is locked within a turn, so that its lines stand in the order of events.
     pub log: &'a Mutex<Log<G::Lines>>,
 }
 
-/// What all connections of a server share: what their agents share, and what serves them. Its starter may be asked for
-/// the programs of connections that are allowed (`may`): code that is generic in the host knows of no others.
+/// What all connections of a server share. Its starter may be asked for the programs of connections that are allowed
+/// (`may`): code that is generic in the host knows of no others.
 #[derive(Drop)]
 pub struct Server<'a, H: Host> {
-    pub context: AgentContext<'a, H>,
+    /// What connections are decided and told by.
+    pub context: Context<'a, H>,
+    /// What starts their programs.
     pub starter: &'a H::Starter,
+    /// What is done for all of them.
     pub service: &'a Service,
-    pub ghost may: { MayStartEach (IsFoundFor H.Places.met (H.Rules.gives context.rules.now) H.Handle.opened)
+    pub ghost may: { MayStartEach (IsFoundFor (H.Rules.gives context.rules.now) H.Handle.opened)
         H.File.honest H.File.sound context.plan.now (H.Starter.may starter.now) },
 }
 
 /// What a server does for all of its connections.
 #[derive(Drop)]
 pub struct Service {
-    /// How many connections there may be at once, and how many are let in before the server ends. Without such a number
-    /// it does not end by itself.
+    /// How many connections there may be at once, in all and from one address, and after how many the server ends.
     pub limits: ConnectionLimits,
     /// How the ends of a connection get their names.
     pub names: HostNames,

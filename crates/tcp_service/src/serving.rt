@@ -3,16 +3,18 @@ ghost use Rattle.std.specs.Prelude.{◌≡◌, IfOk, IfErr};
 ghost use Rattle.child_jobs.specs.Runs.{job_of, place_of};
 ghost use Rattle.shared_site.specs.Callers.{caller_share};
 ghost use Rattle.tcp_service.specs.Accepting.{IsAccepted};
-ghost use Rattle.tcp_service.specs.Agents.{IsFoundFor, asked};
-ghost use Rattle.tcp_service.specs.Lives.{EndsWithReason, IsDecidedChild, IsEndOfChild};
+ghost use Rattle.tcp_service.specs.Ends.{over_decided, over_end};
+ghost use Rattle.tcp_service.specs.Lives.{IsEndOfChild};
+ghost use Rattle.tcp_service.specs.Openings.{IsFoundFor};
+ghost use Rattle.tcp_service.specs.Servings.{EndsFor, IsDecidedChild};
 
-use crate::entrance::{admit, ends_of};
+use crate::entrance::{NoNumbers, admit, ends_of};
 use crate::host::Host;
 use crate::life::{Admitted, Alive, Over};
 use crate::server::Server;
 use shared_site::CallerOf;
 use std::snapshot::Snapshot;
-use tcp_connections::{Accepted, Refused, Serving, wait_in_rounds};
+use tcp_connections::{Accepted, Greeter, Refused, Serving, wait_in_rounds};
 
 impl<H> Serving for Server<'_, H>
 where
@@ -32,6 +34,8 @@ where
     type Came = Accepted<H::Connection>;
 
     type Entrance = CallerOf<H>;
+
+    type Spent = NoNumbers;
 
     type Work = Admitted<H>;
 
@@ -53,7 +57,7 @@ where
         &self,
         admitter: &mut CallerOf<H>,
         came: Accepted<H::Connection>,
-    ) -> Result<Admitted<H>, Refused> {
+    ) -> Result<Admitted<H>, Refused<NoNumbers>> {
         let context = &self.context;
         let Some((peer, local)) = ends_of(context.alloc, &self.service.names, &came) else {
             drop(came);
@@ -86,14 +90,14 @@ where
         ensures own { IfOk result (λ alive. alive.serial ≡ admitted.serial) }
         ensures place { IfOk result (λ alive. place_of alive.running ≡ admitted.place) }
         ensures child { IfOk result (λ alive. IsDecidedChild
-            (IsFoundFor H.Places.met (H.Rules.gives self.now.context.rules.now) H.Handle.opened admitted.serial)
-            H.File.honest H.File.sound admitted.peer admitted.local self.now.context.plan.now
+            (IsFoundFor (H.Rules.gives self.now.context.rules.now) H.Handle.opened) H.File.honest H.File.sound
+            admitted.serial admitted.peer admitted.local self.now.context.plan.now
             (H.Job.program (job_of alive.running)) (H.Job.environment (job_of alive.running))) }
         ensures over { IfErr result (λ over. over.serial ≡ admitted.serial) }
-        ensures reason { IfErr result (λ over. EndsWithReason
-            (IsFoundFor H.Places.met (H.Rules.gives self.now.context.rules.now) H.Handle.opened admitted.serial)
-            H.File.honest H.File.sound admitted.peer admitted.local self.now.context.plan.now
-            (H.Starter.refuses self.now.starter.now admitted.connection) admitted.serial (asked over.last.value)) }
+        ensures reason { IfErr result (λ over. EndsFor
+            (IsFoundFor (H.Rules.gives self.now.context.rules.now) H.Handle.opened) H.File.honest H.File.sound
+            admitted.serial admitted.peer admitted.local self.now.context.plan.now
+            (H.Starter.refuses self.now.starter.now admitted.connection) (over_decided over) (over_end over)) }
     {
         let Admitted {
             serial,
@@ -103,40 +107,35 @@ where
             connection,
             made: _,
         } = admitted;
-        let served = self.serve(serial, place, &peer, &local, &connection);
+        let mut client = Greeter {
+            starter: self.starter,
+            connection: &connection,
+        };
+        let served = self.serve_one(serial, place, &peer, &local, &connection, &mut client);
         drop(connection);
         drop(peer);
+        drop(local);
         match served {
-            Ok(running) => Ok(Alive {
-                serial,
-                running,
-                local,
-            }),
-            Err(over) => {
-                drop(local);
-                Err(over)
+            Ok((running, begun)) => {
+                drop(begun);
+                Ok(Alive { serial, running })
             }
+            Err(over) => Err(over),
         }
     }
 
     /// The program of a connection is waited for in rounds, and its end is told.
+    #[tactic(auto, using(crate::proofs::Served::end_told))]
     fn finish(&self, alive: Alive<H>) -> Over
         ensures own { result.serial ≡ alive.serial }
         ensures ended { IsEndOfChild H.Job.killed H.Job.refused_wait H.Job.ended (job_of alive.running)
-            (asked result.last.value) alive.serial }
+            (over_end result) alive.serial }
     {
-        let Alive {
-            serial,
-            running,
-            local,
-        } = alive;
+        let Alive { serial, running } = alive;
         let ended = wait_in_rounds(running);
         let is_retired = ended.is_err();
-        let mut agent = self.context.agent(serial, &local);
-        agent.tell_end(ended);
-        let over = Over::of(&agent, serial, is_retired);
-        drop(agent);
-        over
+        let answer = self.context.ended(serial, ended);
+        Over::of(serial, is_retired, None, answer)
     }
 
     fn is_retired(&self, over: &Over) -> bool {

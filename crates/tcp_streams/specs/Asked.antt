@@ -24,8 +24,8 @@ accepts_at_once acceptor = acceptor.sends_at_once
 abbrev pub passing_of : {R E : Type 0} → ProgramStarter R E → Passing
 passing_of starter = starter.passing
 
--- connections are handed over or pumped as the words say; what passes goes through the line wrappers of `-w`, each way in
--- its order, and is recorded where `-w` begins with `recordio`
+-- connections are handed over or pumped as the words say; what passes goes through the line wrappers of `-w`, each way
+-- in its order, and is recorded where `-w` begins with `recordio`
 pub record IsAskedPassing (words : ServerPlan) (passing : Passing) : Type 0 where
   pub mode : passing.mode ≡ words.mode
   pub recording : passing.recording ≡ words.wrapping.records

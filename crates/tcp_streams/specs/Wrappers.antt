@@ -26,8 +26,8 @@ whole_of (wrapper.AddCr inner) = added
 whole_of (wrapper.DelCr inner) = deleted
 whole_of (wrapper.FixCr inner) = fixed
 
--- What the wrappers of a chain write, one after another, is what those of these names do, the first name first. The chain
--- is new: nothing of a text has passed it, and it takes pieces.
+-- What the wrappers of a chain write, one after another, is what those of these names do, the first name first. The
+-- chain is new: nothing of a text has passed it, and it takes pieces.
 pub record IsNewChain (names : List LineWrapperName) (chain : Chain Wrapper) : Type 0 where
   pub of_names : map whole_of (wrappers_of chain) ≡ map changed_by names
   pub at_begin : map rest_of (wrappers_of chain) ≡ map changed_by names

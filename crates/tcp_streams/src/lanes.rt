@@ -1,12 +1,12 @@
 //! One way of a pumped connection, from a stream to another one. No call of it waits.
-ghost use Rattle.std.specs.Prelude.{◌≡◌, ◌<◌, IfSome, length};
+ghost use Rattle.std.specs.Prelude.{◌≡◌, ◌<◌, IfOk, length};
 ghost use Rattle.tcp_streams.specs.Taps.{Recorded, Records};
 ghost use Rattle.tcp_streams.specs.Wrappers.{IsNewChain};
 
 use crate::wrappers::{Wrapper, chain_of};
 use byte_streams::{Chain, Recorder, Tap, Way, Why, new_room, pump_once};
 use server_words::LineWrapperName;
-use std::alloc::Global;
+use std::alloc::{AllocError, Global};
 use std::io;
 use std::io::{Error, ErrorKind, Read, Write};
 
@@ -56,8 +56,8 @@ impl<W: Write> Tap for WayTap<W> {
     }
 }
 
-/// One way of a connection: what is read goes through line wrappers, and what they give is written. What the writer does
-/// not take yet is kept, and nothing more is read until it has.
+/// One way of a connection: what is read goes through line wrappers, and what they give is written. What the writer
+/// does not take yet is kept, and nothing more is read until it has.
 #[derive(Drop)]
 pub(crate) struct Lane<W> {
     alloc: Global,
@@ -73,14 +73,21 @@ pub(crate) struct Lane<W> {
 }
 
 impl<W: Write + Drop> Lane<W> {
-    /// A way through the line wrappers of these names, at its begin. `None` if there is no memory.
-    pub fn new(alloc: Global, names: &[LineWrapperName], tap: WayTap<W>) -> Option<Lane<W>>
-        ensures new { IfSome result (λ lane. IsNewChain names.now lane.chain) }
-        ensures tap { IfSome result (λ lane. lane.tap ≡ tap) }
+    /// A way through the line wrappers of these names, at its begin.
+    ///
+    /// # Errors
+    /// There was no memory.
+    pub fn new(
+        alloc: Global,
+        names: &[LineWrapperName],
+        tap: WayTap<W>,
+    ) -> Result<Lane<W>, AllocError>
+        ensures new { IfOk result (λ lane. IsNewChain names.now lane.chain) }
+        ensures tap { IfOk result (λ lane. lane.tap ≡ tap) }
     {
-        let chain = chain_of(alloc, names).ok()?;
-        let room = new_room(alloc).ok()?;
-        Some(Lane {
+        let chain = chain_of(alloc, names)?;
+        let room = new_room(alloc)?;
+        Ok(Lane {
             alloc,
             chain,
             tap,

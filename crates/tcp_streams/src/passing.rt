@@ -1,5 +1,5 @@
 //! Both ways of a pumped connection, in one thread.
-ghost use Rattle.std.specs.Prelude.{◌≡◌, IfSome};
+ghost use Rattle.std.specs.Prelude.{◌≡◌, IfOk};
 ghost use Rattle.tcp_streams.specs.Asked.{IsNewPassage};
 
 use crate::lanes::{Lane, WayTap};
@@ -8,7 +8,7 @@ use child_jobs::Job;
 use libc::net::{_SS_SIZE, POLLERR, POLLHUP, POLLIN, POLLOUT};
 use libc::types::pollfd;
 use server_words::{LineWrapperName, Mode};
-use std::alloc::Global;
+use std::alloc::{AllocError, Global};
 use std::io::{Read, Write};
 use std::net::TcpStream;
 use std::os::fd::{AsRawFd, OwnedFd};
@@ -24,14 +24,14 @@ const IDLE: u64 = 60;
 /// And for so many it may take it in all.
 const ALL: u64 = 600;
 
-/// While something is kept for a client, it is tried again after so many milliseconds; and once a program writes no more,
-/// but its input is open, it is looked after so often whether it is over.
+/// So often, in milliseconds, bytes that are kept for a client are tried again. So often the server also looks whether
+/// a program is over that has closed its output but not its input.
 const LOOK: i32 = 1_000;
 
-/// While bytes pass, that is looked after each time that so many pieces have.
+/// While bytes pass, it looks each time that so many pieces have.
 const TURNS: u32 = 64;
 
-/// So many milliseconds pass where the system doesn't tell what is ready.
+/// So many milliseconds pass if the system doesn't tell what is ready.
 const SHORT_PAUSE: u64 = 5;
 
 /// So many pieces of what a client sent, of so many bytes at most, are read and dropped at the end of its connection.
@@ -48,7 +48,7 @@ const ADDRESS: u32 = 16;
 pub struct Passing<'a> {
     /// Whether programs hold their connections themselves (`-s`), or the server passes the bytes on (`-S`).
     pub mode: Mode,
-    /// Where it does: whether what goes both ways is recorded (`-w recordio`).
+    /// If it does: whether what goes both ways is recorded (`-w recordio`).
     pub recording: bool,
     /// The line wrappers for what a client sends, the first one first (`-w`).
     pub input: &'a [LineWrapperName],
@@ -59,8 +59,8 @@ pub struct Passing<'a> {
 /// A connection that is pumped, with the pipe ends of its program while its bytes pass.
 ///
 /// While somebody holds the other end of the program's output, what was written there waits as long as the client does.
-/// Once nobody does, what is left is given up if the client takes nothing for `IDLE` seconds, or after `ALL` seconds. The
-/// connection of a client that does not get all ends in a reset.
+/// Once nobody does, what is left is given up if the client takes nothing for `IDLE` seconds, or after `ALL` seconds.
+/// The connection of a client that does not get all ends in a reset.
 #[derive(Drop)]
 pub(crate) struct Passage<'a, R, E> {
     rt: &'a R,
@@ -85,8 +85,10 @@ struct Ready {
 }
 
 impl<'a, R: Wait + Clock, E: Write + Copy + Drop> Passage<'a, R, E> {
-    /// A connection whose client has this port, at its begin. What passes is recorded to `errors`. `None` if there is no
-    /// memory.
+    /// A connection whose client has this port, at its begin. What passes is recorded to `errors`.
+    ///
+    /// # Errors
+    /// There was no memory. The connection is closed.
     pub fn new(
         alloc: Global,
         rt: &'a R,
@@ -94,8 +96,8 @@ impl<'a, R: Wait + Clock, E: Write + Copy + Drop> Passage<'a, R, E> {
         errors: E,
         port: u16,
         client: TcpStream,
-    ) -> Option<Box<Passage<'a, R, E>>>
-        ensures new { IfSome result (λ passage. IsNewPassage passing.now port passage.value) }
+    ) -> Result<Box<Passage<'a, R, E>>, AllocError>
+        ensures new { IfOk result (λ passage. IsNewPassage passing.now port passage.value) }
     {
         let (recording, number) = (passing.recording, u64::from(port));
         let tap = WayTap::new(
@@ -123,11 +125,11 @@ impl<'a, R: Wait + Clock, E: Write + Copy + Drop> Passage<'a, R, E> {
             output: None,
             waited: None,
         };
-        Box::new(alloc, passage).ok()
+        Box::new(alloc, passage).ok().ok_or(AllocError)
     }
 
-    /// Passes bytes between the client and this program, until nothing more passes, or the program writes no more and is
-    /// over, whatever processes it left behind. It does so once; both pipe ends are closed then.
+    /// Passes bytes between the client and this program, until nothing more passes, or the program writes no more and
+    /// is over, whatever processes it left behind. It does so once; both pipe ends are closed then.
     pub fn pass(&mut self, job: &mut OsJob)
         ensures program { ⟦<OsJob as Job>⟧.program job.new ≡ ⟦<OsJob as Job>⟧.program job.old }
         ensures environment { ⟦<OsJob as Job>⟧.environment job.new ≡ ⟦<OsJob as Job>⟧.environment job.old }
@@ -260,8 +262,8 @@ impl<'a, R: Wait + Clock, E: Write + Copy + Drop> Passage<'a, R, E> {
         }
     }
 
-    // Whether the client has held up for too long what is left for it. It has just taken something, or nothing. Its time
-    // runs from when nobody holds the other end of the output any more, and doesn't begin anew.
+    // Whether the client has held up for too long what is left for it. It has just taken something, or nothing. Its
+    // time runs from when nobody holds the other end of the output any more, and doesn't begin anew.
     fn is_given_up(&mut self, took: bool) -> bool {
         if self.waited.is_none() && self.output.as_ref().is_some_and(is_held) {
             return false;

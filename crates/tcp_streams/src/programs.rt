@@ -3,7 +3,7 @@ ghost use Rattle.std.specs.Prelude.{◌≡◌, ⊤, IfErr, IfOk, IfSome, is_some
 ghost use Rattle.tcp_streams.specs.Asked.{IsNewPassage, passage_of, passing_of, port_of, pumps};
 
 use crate::passing::{Passage, Passing};
-use crate::sockets::{Connection, TOO_MANY_FILES, TOO_MANY_FILES_AT_ALL};
+use crate::sockets::{Connection, TOO_MANY_FILES_AT_ALL};
 use child_jobs::{Environment, Exit, Job, Launcher, NotStarted, Program, StartFault, WaitFault};
 use server_words::Mode;
 use std::alloc::Global;
@@ -12,24 +12,17 @@ use std::io::Write;
 use std::os::fd::OwnedFd;
 use std::process::Processes;
 use std::sync::Wait;
-use std::time::{Clock, Duration};
+use std::time::Clock;
 use std::{io, thread};
 use stream_tools::{OsJob, OsLauncher, SearchPath};
-use tcp_connections::{Reserve, Starter};
+use tcp_connections::{Reserve, Starter, pause_after};
 
-/// For so many milliseconds a program waits that the system has no process or no descriptor for: at first, and at most,
-/// each time twice as long as before; and so often, which takes about a minute.
-const FIRST_WAIT: u64 = 10;
-
-const LONGEST_WAIT: u64 = 1_000;
-
+/// So often a start waits and tries again, for about a minute, if the system has no process or no descriptor for a
+/// program.
 const WAITS: u32 = 66;
 
-/// After so many of them each is the longest.
-const LONGER: u32 = 8;
-
-/// Starts programs as `OsLauncher` does. Where the system has no process for one, the one in reserve is given back. Then,
-/// and where it has no descriptor for one by now, it waits for some time for the end of another.
+/// Starts programs as `OsLauncher` does. If the system has no process for one, the one in reserve is given back. Then,
+/// and if it has no descriptor for one now, the start waits for some time for the end of another program.
 ///
 /// A connection that is handed over is the standard input and output of its program, one socket twice, and this process
 /// holds it no more. Else both are pipes, and the job has the connection: `wait` passes its bytes.
@@ -85,14 +78,14 @@ impl<'a, R: Processes + Files + Wait + Clock, E: Write + Copy + Drop> ProgramSta
                     },
                 ) => {
                     self.reserve.give_back(self.rt);
-                    self.wait_for_another(waits);
+                    thread::sleep(self.rt, pause_after(waits + 1));
                 }
                 Err(
                     NotStarted {
-                        error: Some(TOO_MANY_FILES | TOO_MANY_FILES_AT_ALL),
+                        error: Some(libc::EMFILE | TOO_MANY_FILES_AT_ALL),
                         ..
                     },
-                ) => self.wait_for_another(waits),
+                ) => thread::sleep(self.rt, pause_after(waits + 1)),
                 outcome => return outcome,
             }
         }
@@ -116,12 +109,6 @@ impl<'a, R: Processes + Files + Wait + Clock, E: Write + Copy + Drop> ProgramSta
             None => launcher.start(alloc, program, environment),
         }
     }
-
-    // Waits for what another program gives back that ends, after so many such waits.
-    fn wait_for_another(&self, waits: u32) {
-        let longer = FIRST_WAIT << waits.min(LONGER);
-        thread::sleep(self.rt, Duration::from_millis(longer.min(LONGEST_WAIT)));
-    }
 }
 
 impl<'a, R, E> Starter<Connection<'a, R>> for ProgramStarter<'a, R, E>
@@ -139,7 +126,10 @@ where
         connection.send(bytes)
     }
 
-    /// As of the trait; a connection that was given before is `Other`. One whose program is not started is closed.
+    /// As of the trait.
+    ///
+    /// # Errors
+    /// Also `Other` if the connection's socket was taken before. If no program is started, the connection is closed.
     fn start_for(
         &self,
         alloc: Global,
@@ -164,7 +154,7 @@ where
             }
             Mode::Pumped => {
                 let passage = Passage::new(alloc, rt, passing, self.errors, port, client);
-                let passage = Some(passage.ok_or(StartFault::OutOfMemory)?);
+                let passage = Some(passage.ok().ok_or(StartFault::OutOfMemory)?);
                 let job = self.start_in_time(alloc, program, environment, None)?;
                 Ok(ServiceJob { job, passage })
             }
@@ -172,8 +162,8 @@ where
     }
 }
 
-/// The program of a connection, with the connection if it is pumped. The language lets nobody drop it: it is waited for,
-/// or abandoned.
+/// The program of a connection, with the connection if it is pumped. The language lets nobody drop it: it is waited
+/// for, or abandoned.
 pub struct ServiceJob<'a, R, E> {
     job: OsJob,
     // (in a box, since a job that is handed on takes each time as much of the stack as it is long)
@@ -199,8 +189,11 @@ impl<'a, R: Wait + Clock, E: Write + Copy + Drop> Job for ServiceJob<'a, R, E> {
         self.job.process()
     }
 
-    /// As of the trait. Before it waits, the bytes of a pumped connection pass; and once it has waited, that connection is
-    /// closed.
+    /// As of the trait. Before it waits, the bytes of a pumped connection pass; and once it has waited, that connection
+    /// is closed.
+    ///
+    /// # Errors
+    /// Those of `Job::wait`. The connection is closed then too; the job that is handed back has none.
     fn wait(self) -> Result<Exit, (ServiceJob<'a, R, E>, WaitFault)> {
         let ServiceJob {
             mut job,

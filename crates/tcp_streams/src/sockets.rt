@@ -10,16 +10,14 @@ use std::net::{OpenListener, SocketAddr, SocketAddrV4, TcpStream};
 use std::sync::{Mutex, Wait};
 use tcp_connections::{AcceptError, Accepted, Acceptor};
 
-/// The system's faults of a process, and of the whole system, that has too many open files.
-pub(crate) const TOO_MANY_FILES: i32 = 24;
-
+/// `ENFILE`: the whole system has too many open files.
 pub(crate) const TOO_MANY_FILES_AT_ALL: i32 = 23;
 
-/// The system's fault of a socket for which it has no memory.
+/// `ENOBUFS`: the system has no memory for a socket.
 const NO_BUFFERS: i32 = 105;
 
-/// A connection. Its socket is there until it is taken out for the connection's program; if it is not, it is closed with
-/// this.
+/// A connection. Its socket is there until it is taken out for the connection's program. One that was not taken out is
+/// closed with this value.
 #[derive(Drop)]
 pub struct Connection<'a, R> {
     rt: &'a R,
@@ -61,7 +59,7 @@ pub struct SocketAcceptor<'a, R, T> {
 }
 
 impl<'a, R: Wait, T: OpenListener<Stream = TcpStream>> SocketAcceptor<'a, R, T> {
-    /// Those of this listener. What is written to them is sent at once where that is asked for (`-D`).
+    /// Those of this listener. What is written to them is sent at once if that is asked for (`-D`).
     pub fn new(rt: &'a R, listener: T, sends_at_once: bool) -> SocketAcceptor<'a, R, T>
         ensures from { accepts_from result ≡ listener }
         ensures at_once { accepts_at_once result ≡ sends_at_once }
@@ -73,8 +71,8 @@ impl<'a, R: Wait, T: OpenListener<Stream = TcpStream>> SocketAcceptor<'a, R, T> 
         }
     }
 
-    // Waits for the next connection: its socket, and where its ends are, the server's first. It is an error too if one is
-    // no IPv4 end.
+    // Waits for the next connection: its socket, and where its ends are, the server's first. It is an error too if one
+    // is no IPv4 end.
     fn next(&self) -> io::Result<(SocketAddrV4, TcpStream, SocketAddrV4)> {
         let (stream, peer) = self.listener.accept()?;
         match (stream.local_addr()?, peer) {
@@ -118,7 +116,7 @@ where
 fn error_of(error: &Error) -> AcceptError {
     let number = error.raw_os_error();
     let lacks_room = match number {
-        Some(TOO_MANY_FILES | TOO_MANY_FILES_AT_ALL | NO_BUFFERS) => true,
+        Some(libc::EMFILE | TOO_MANY_FILES_AT_ALL | NO_BUFFERS) => true,
         _ => error.kind() == ErrorKind::OutOfMemory,
     };
     AcceptError { lacks_room, number }

@@ -1,5 +1,6 @@
 //! Eight callers in threads of their own, who share four places.
 ghost use Rattle.std.specs.Prelude.{◌≡◌, false};
+ghost use Rattle.shared_site.specs.Callers.{new_count};
 
 use crate::calls::{At, Worker};
 use crate::receipts::Receipts;
@@ -12,7 +13,7 @@ use rules_install::whole::prepare;
 use rules_install::{FileNames, Install};
 use server_events::Report;
 use server_yard::Assumptions;
-use shared_site::{Caller, Callers, Ground};
+use shared_site::{Caller, Callers, Ground, NewCallers};
 use std::alloc::{AllocError, Global};
 use std::marker::Brand;
 use std::sync::Wait;
@@ -40,7 +41,7 @@ trait Work<C, W> {
 
 impl<G: Ground, R: Wait + Clock> Work<Caller<G::Callers>, Worker<G::Callers>> for At<'_, G, R> {
     fn work(&self, caller: Caller<G::Callers>) -> Worker<G::Callers> {
-        let peer = peer_for(self.alloc, caller.number);
+        let peer = peer_for(self.alloc, caller.number());
         let mut worker = Worker {
             caller,
             receipts: Receipts::new(self.alloc),
@@ -95,18 +96,16 @@ fn name(alloc: Global, bytes: &[u8]) -> Option<Name> {
     Name::new(alloc, bytes).ok()
 }
 
-// Makes eight callers of the share of all.
-fn take_eight<N: Callers>(alloc: Global, share: &mut Share<N>) -> Result<Vec<Caller<N>>, AllocError>
-    requires eight { share.old.parts ≡ CALLERS }
-    requires idle { share.old.amount ≡ 0 }
+// Takes eight callers.
+fn take_eight<N: Callers>(
+    alloc: Global,
+    new: &mut NewCallers<N>,
+) -> Result<Vec<Caller<N>>, AllocError>
+    requires eight { new_count new.old ≡ CALLERS }
 {
     let mut callers = Vec::new(alloc);
-    for before in 0..CALLERS {
-        let caller = Caller {
-            number: before + 1,
-            share: share.split_off(1, 0),
-        };
-        callers.push(caller)?;
+    for _ in 0..CALLERS {
+        callers.push(new.take())?;
     }
     Ok(callers)
 }
@@ -116,12 +115,11 @@ fn run_eight<N: Callers + Send, W: Work<Caller<N>, Worker<N>> + Sync, R: Threads
     rt: &R,
     alloc: Global,
     work: &W,
-    share: &mut Share<N>,
+    new: &mut NewCallers<N>,
 ) -> Result<Vec<Worker<N>>, AllocError>
-    requires eight { share.old.parts ≡ CALLERS }
-    requires idle { share.old.amount ≡ 0 }
+    requires eight { new_count new.old ≡ CALLERS }
 {
-    let callers = take_eight(alloc, share)?;
+    let callers = take_eight(alloc, new)?;
     thread::map_vec(rt, callers, &|caller| work.work(caller))
 }
 
@@ -167,14 +165,13 @@ fn run_all<N: Callers + Send, W: Work<Caller<N>, Worker<N>> + Sync, R: Threads +
     rt: &R,
     alloc: Global,
     work: &W,
-    mut share: Share<N>,
+    mut new: NewCallers<N>,
 ) -> (BackCallers<N>, Receipts)
-    requires eight { share.parts ≡ CALLERS }
-    requires idle { share.amount ≡ 0 }
+    requires eight { new_count new ≡ CALLERS }
     ensures all { result.0.all ≡ CALLERS }
 {
-    let workers = run_eight(rt, alloc, work, &mut share);
-    gather(alloc, share.empty(), workers)
+    let workers = run_eight(rt, alloc, work, &mut new);
+    gather(alloc, new.nobody(), workers)
 }
 
 // Runs eight callers of one site over a directory.
@@ -197,13 +194,13 @@ where
     requires parts { (parts.name ≡ G.Callers.name) × (parts.parts ≡ G.Callers.parts) × (parts.parts ≡ CALLERS) }
     requires callers { G.Callers.before ≡ 0 }
 {
-    let (site, share) = new_site::<G>(alloc, places, parts, dir, rules, LIMIT)?;
+    let (site, new) = new_site::<G>(alloc, places, parts, dir, rules, LIMIT, CALLERS)?;
     let at = At {
         rt,
         alloc,
         site: &site,
     };
-    let (callers, receipts) = run_all(rt, alloc, &at, share);
+    let (callers, receipts) = run_all(rt, alloc, &at, new);
     drop(at);
     close(alloc, site, callers, receipts, LIMIT)
 }

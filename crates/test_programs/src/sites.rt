@@ -3,6 +3,7 @@ ghost use Rattle.std.specs.Prelude.{◌≡◌, false, IfSome, IsTrue, OnOk};
 ghost use Rattle.server_events.specs.JournalParts.{books_of_journal};
 ghost use Rattle.server_yard.specs.Kept.{rules_of};
 ghost use Rattle.server_yard.specs.Standing.{BeginsWell};
+ghost use Rattle.shared_site.specs.Callers.{new_count};
 ghost use Rattle.whole_yard.specs.Closings.{IsWhole};
 
 use crate::receipts::Receipts;
@@ -11,10 +12,10 @@ use memory_dirs::{MemDir, MemFile};
 use rule_lookup::WhenMissing;
 use server_events::{Event, Journal, Report, replay};
 use server_yard::{Assumptions, Yard};
-use shared_site::{Callers, Ground, Receipt, Site};
+use shared_site::{Callers, Ground, NewCallers, Receipt, Site};
 use std::alloc::{AllocError, Global};
 use std::marker::PhantomData;
-use std::sync::ledger::{Blank, Share};
+use std::sync::ledger::Blank;
 use whole_yard::{BackCallers, NotWhole, close_and_audit};
 
 /// What these sites stand on: a directory in memory, with these ledgers of places and of callers.
@@ -32,7 +33,7 @@ impl<L: Assumptions, N: Callers> Ground for InMemory<L, N> {
     ghost is_servers = { false };
 }
 
-/// A site over a directory, and the share of all its callers.
+/// A site over a directory, and so many callers.
 pub(crate) fn new_site<G: Ground>(
     alloc: Global,
     places: Blank,
@@ -40,17 +41,17 @@ pub(crate) fn new_site<G: Ground>(
     dir: G::Folder,
     rules: Option<(Name, WhenMissing)>,
     limit: u64,
-) -> Option<(Site<G>, Share<G::Callers>)>
+    callers: u64,
+) -> Option<(Site<G>, NewCallers<G::Callers>)>
     requires places { (places.name ≡ G.Places.name) × (places.parts ≡ G.Places.parts) × (places.parts ≡ limit) }
     requires begins { IsTrue G.Places.met → BeginsWell G.Folder.honest (G.Folder.state dir) (rules_of rules) }
-    requires parts { (parts.name ≡ G.Callers.name) × (parts.parts ≡ G.Callers.parts) }
+    requires parts { (parts.name ≡ G.Callers.name) × (parts.parts ≡ G.Callers.parts) × (parts.parts ≡ callers) }
     requires callers { G.Callers.before ≡ 0 }
-    ensures parts { IfSome result (λ made. made.1.parts ≡ G.Callers.parts) }
-    ensures idle { IfSome result (λ made. made.1.amount ≡ 0) }
+    ensures { IfSome result (λ made. new_count made.1 ≡ callers) }
 {
     let journal = Journal::storing(alloc);
     let yard = Yard::new(alloc, places, dir, rules, limit, journal).ok()?;
-    Some(Site::new(parts, yard))
+    Some(Site::new(parts, yard, callers))
 }
 
 /// What the yard of a site reports once its callers are all back. Their receipts have to be its whole history, and that

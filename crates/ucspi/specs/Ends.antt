@@ -1,5 +1,5 @@
 -- How the tool ends, by how its server did.
-use Rattle.std.specs.Prelude.{ℤ, not, nat_le, ◌==◌, ◌-◌, ◌^◌, length, Option, None, Result, Ok, Err, if◌then◌else◌}
+use Rattle.std.specs.Prelude.{ℤ, not, nat_le, ◌==◌, length, Option, None, Result, Ok, Err, if◌then◌else◌}
 use Rattle.server_events.specs.Journals.{Books}
 use Rattle.server_events.specs.ServerState.{ServerState}
 use Rattle.server_parts.specs.declared.fault.ServerFailure.{ServerFailure}
@@ -13,7 +13,6 @@ use Rattle.ucspi.specs.declared.ends.Last.{Last}
 abbrev pub last_of : Books → ServerState → Last
 last_of books server = record {
   has_lost = not (books.report.retired == length server.connections);
-  is_spent = books.count == 2 ^ 64 - 1;
   is_retired = nat_le server.limit books.report.retired;
 }
 
@@ -21,14 +20,14 @@ last_of books server = record {
 abbrev pub failed : ServerFault → Result (Unit {0}) ServerFailure
 failed fault = Err (record { fault = fault; error = None })
 
--- a server that has served all ends well; a fault of accepting has the last error's number, or that of what there was too
--- little of; what else ends a server is that all places are retired, or want of memory
-abbrev pub told_by : Last → ServeEnd → (accepting : Option ℤ) → Result (Unit {0}) ServerFailure
+-- a server that has served all ends well; a fault of accepting has the last error's number, or that for want of
+-- descriptors; what else ends a server is that all places are retired, or want of memory
+abbrev pub told_by : {S : Type 0} → Last → ServeEnd S → (accepting : Option ℤ) → Result (Unit {0}) ServerFailure
 told_by last Count accepting = Ok tt
-told_by last Spent accepting = if last.is_spent then Ok tt else failed fault.OutOfMemory
+told_by last (Spent spent) accepting = Ok tt
 told_by last AcceptFaults accepting = Err (record { fault = fault.AcceptFault; error = accepting })
 told_by last Exhausted accepting = if last.is_retired then failed fault.NoPlaces else failed fault.OutOfMemory
 
 -- but one that has lost a connection ends by that
-abbrev pub told_of : Last → ServeEnd → (accepting : Option ℤ) → Result (Unit {0}) ServerFailure
+abbrev pub told_of : {S : Type 0} → Last → ServeEnd S → (accepting : Option ℤ) → Result (Unit {0}) ServerFailure
 told_of last end accepting = if last.has_lost then failed fault.LostConnection else told_by last end accepting

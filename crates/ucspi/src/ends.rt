@@ -18,14 +18,12 @@ pub struct Finished(());
 pub(crate) struct Last {
     /// Whether a connection is alive still that is not retired, though no thread has it.
     pub has_lost: bool,
-    /// Whether the last number of an event was given.
-    pub is_spent: bool,
     /// Whether all places are retired.
     pub is_retired: bool,
 }
 
-// How the tool ends, by how its server did, what its yard was then, and the system's last fault of accepting. The events
-// of its site were a run.
+// How the tool ends, by how its server did, what its yard was then, and the system's last fault of accepting. The
+// events of its site were a run.
 pub(crate) fn end_of<H: Host>(served: Closed<H>) -> Result<Finished, ServerFailure>
     requires servers { H.is_servers ≡ true }
     requires new { H.Callers.before ≡ 0 }
@@ -33,18 +31,25 @@ pub(crate) fn end_of<H: Host>(served: Closed<H>) -> Result<Finished, ServerFailu
     ensures finished { OnOk result (told_of served.last served.end served.faults.last ≡ Ok tt) }
     ensures closed { IfErr result (λ failure. told_of served.last served.end served.faults.last ≡ Err failure) }
 {
-    let (last, end, error) = (served.last, served.end, served.faults.last);
-    drop(served);
+    let Closed {
+        end,
+        last,
+        yard,
+        faults,
+        ..
+    } = served;
+    drop(yard);
     let fault = match end {
         _ if last.has_lost => ServerFault::LostConnection,
-        ServeEnd::Count => return Ok(Finished(())),
-        ServeEnd::Spent if last.is_spent => return Ok(Finished(())),
+        ServeEnd::Count | ServeEnd::Spent(_) => return Ok(Finished(())),
         ServeEnd::AcceptFaults => {
-            let fault = ServerFault::AcceptFault;
-            return Err(ServerFailure { fault, error });
+            return Err(ServerFailure {
+                fault: ServerFault::AcceptFault,
+                error: faults.last,
+            });
         }
         ServeEnd::Exhausted if last.is_retired => ServerFault::NoPlaces,
-        ServeEnd::Spent | ServeEnd::Exhausted => ServerFault::OutOfMemory,
+        ServeEnd::Exhausted => ServerFault::OutOfMemory,
     };
     Err(ServerFailure::from(fault))
 }

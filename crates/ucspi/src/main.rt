@@ -12,9 +12,9 @@
 //! printed and exited with, is read here and tested with real clients. `run_tcpserver` refuses words with a fault, and
 //! ends well only by a `Finished`.
 //!
-//! At the end of a server both callers are back, and as many connections are alive as are retired: `serve` looks at the
-//! last, and says `has_lost` if it is not so. The events of its site are a run, of which `whole_yard::laws::service_run`
-//! speaks.
+//! At the end of a server both callers are back. `close` compares the connections alive with the retired ones, and
+//! `end_of` reports a difference as `lost connection`. The events of its site are a run, of which
+//! `server_yard::laws::whole_run` speaks.
 #![tactic(auto)]
 
 mod ends;
@@ -26,7 +26,7 @@ mod system;
 mod tool;
 
 use fault_hints::Voice;
-use server_parts::opening::stand_in;
+use server_parts::opening::hold_standard;
 use standard::run_system;
 use std::process::ExitCode;
 use stream_tools::{run_fixcrio, run_recordio};
@@ -40,7 +40,7 @@ fn main(rt: HostRuntime) -> ExitCode {
         }
     };
     let pass = |recorded: bool, words: &[Vec<u8>]| {
-        let _held = [stand_in(&rt), stand_in(&rt), stand_in(&rt)];
+        let _held = hold_standard(&rt);
         if recorded {
             run_recordio(&rt, rt.stderr(), words)
         } else {

@@ -6,8 +6,8 @@ use dir_calls::{Dir, DirFault, Name, RulesFile};
 use std::alloc::Global;
 use std::marker::PhantomData;
 
-/// No folder, and none of these files: a server installs nothing, and its connections open the rules by handles of their
-/// own. No call of it succeeds but `settle`, and nothing is known of it.
+/// No folder, and none of these files: a server installs nothing, and its connections open the rules by handles of
+/// their own. No call of it succeeds but `settle`, and nothing is known of it.
 #[derive(Drop)]
 pub(crate) struct NoFolder<F>(pub PhantomData<F>);
 

@@ -1,20 +1,21 @@
-//! The server: it lets connections in, each served by threads that are kept, until it comes to an end.
+//! The server: it lets connections in, workers serve them, and it comes to an end.
 //!
 //! This stands in the program's crate because whoever names `Workers::serve_through` loads all proofs behind it.
-ghost use Rattle.std.specs.Prelude.{◌≡◌, ◌+◌, true};
+ghost use Rattle.std.specs.Option.{ForSome};
+ghost use Rattle.std.specs.Prelude.{◌≡◌, ◌+◌, ◌≤◌, Some, true};
 ghost use Rattle.server_yard.specs.Yards.{HasRun, name_of, yard_books, yard_rules, yard_server};
 ghost use Rattle.shared_site.specs.Callers.{caller_share};
-ghost use Rattle.tcp_connections.specs.Admissions.{EndsAtCount, FailedToAccept, LetsInAtMost, suffices};
-ghost use Rattle.tcp_connections.specs.declared.serving.ServeEnd.TheVariants.{AcceptFaults};
-ghost use Rattle.tcp_service.specs.Agents.{IsFoundFor};
-ghost use Rattle.tcp_service.specs.Lives.{MayStartEach};
+ghost use Rattle.tcp_connections.specs.Admissions.{FailedToAccept, suffices};
+ghost use Rattle.tcp_connections.specs.declared.serving.ServeEnd.TheVariants.{AcceptFaults, Count};
+ghost use Rattle.tcp_service.specs.Openings.{IsFoundFor};
+ghost use Rattle.tcp_service.specs.Servings.{MayStartEach};
 ghost use Rattle.ucspi.specs.Ends.{last_of};
 
 use crate::ends::{Finished, Last, end_of};
 use child_jobs::Plan;
 use server_log::Log;
 use server_parts::ServerFailure;
-use shared_site::{Caller, CallerOf, Site, YardOf};
+use shared_site::{CallerOf, Site, YardOf};
 use std::alloc::Global;
 use std::snapshot::Snapshot;
 use std::sync::Mutex;
@@ -22,18 +23,18 @@ use std::sync::ledger::Blank;
 use std::thread::Threads;
 use std::time::Clock;
 use tcp_connections::{Accepted, Acceptor, Faults, ServeEnd, Supply, Workers};
-use tcp_service::{AgentContext, Host, Server, Service};
+use tcp_service::{Context, Host, NoNumbers, Server, Service};
 
 /// So many callers of a site make the events of a server: one lets connections in, and the other makes the rest.
 pub(crate) const CALLERS: u64 = 2;
 
 /// A server that has come to its end: nobody is let in any more and its threads have ended, both callers of its site
-/// are back and the site is closed. By faults of accepting it ended only if a hundred came since the last connection, or
-/// if there was too little for one connection.
+/// are back and the site is closed. By faults of accepting it ended only if a hundred came since the last connection,
+/// or if there were too few descriptors for one connection.
 #[derive(Drop)]
 pub(crate) struct Closed<H: Host> {
     /// How it ended.
-    pub end: ServeEnd,
+    pub end: ServeEnd<NoNumbers>,
     /// What its yard was like then.
     pub last: Last,
     /// What its site was made of, with all that happened.
@@ -50,8 +51,8 @@ pub(crate) struct Closed<H: Host> {
         ≡ H.Callers.before + (caller_share admitter.value + caller_share teller.value) },
     pub ghost seen: { last ≡ last_of (yard_books yard) (yard_server yard) },
     // how many it let in
-    pub ghost by_count: { EndsAtCount end H.Callers.admissions (caller_share admitter.value) },
-    pub ghost most: { LetsInAtMost end H.Callers.admissions (caller_share admitter.value) },
+    pub ghost by_count: { end ≡ Count → H.Callers.admissions ≡ Some (caller_share admitter.value) },
+    pub ghost most: { ForSome H.Callers.admissions (λ most. caller_share admitter.value ≤ most) },
     pub ghost by_faults: { end ≡ AcceptFaults → ∥ FailedToAccept (suffices supply) faults.count ∥₁ },
     // its events are a run of a server
     pub ghost ran: { H.is_servers ≡ true → H.Callers.before ≡ 0 → HasRun yard },
@@ -98,19 +99,15 @@ where
     requires new { (H.Callers.before ≡ 0) × ((yard_books yard).count ≡ 0) }
     requires count { H.Callers.admissions ≡ service.now.limits.count }
     requires named { H.Rules.named rules.now ≡ name_of (yard_rules yard) }
-    requires may { MayStartEach (IsFoundFor H.Places.met (H.Rules.gives rules.now) H.Handle.opened)
+    requires may { MayStartEach (IsFoundFor (H.Rules.gives rules.now) H.Handle.opened)
         H.File.honest H.File.sound plan.now (H.Starter.may starter.now) }
 {
     let live = yard.live();
     let _ = log.lock(rt).status(live);
-    let (site, mut share) = Site::<H>::new(parts, yard);
-    let teller = Mutex::new(Caller {
-        number: CALLERS,
-        share: share.split_off(1, 0),
-    });
-    let admitter = Caller { number: 1, share };
+    let (site, admitter, teller) = site_of::<H>(parts, yard);
+    let teller = Mutex::new(teller);
     let server = Server::<H> {
-        context: AgentContext {
+        context: Context {
             rt,
             alloc,
             site: &site,
@@ -138,9 +135,22 @@ where
     end_of(close(end, faults, supply, site, admitter, teller))
 }
 
+// A site over this yard, with the caller that lets connections in, and the one that makes all other events.
+fn site_of<H: Host>(parts: Blank, yard: YardOf<H>) -> (Site<H>, CallerOf<H>, CallerOf<H>)
+    requires parts { (parts.name ≡ H.Callers.name) × (parts.parts ≡ H.Callers.parts) × (parts.parts ≡ CALLERS) }
+    requires new { (H.Callers.before ≡ 0) × ((yard_books yard).count ≡ 0) }
+    ensures { caller_share result.1 ≡ 0 }
+{
+    let (site, mut callers) = Site::<H>::new(parts, yard, CALLERS);
+    let teller = callers.take();
+    let admitter = callers.take();
+    drop(callers);
+    (site, admitter, teller)
+}
+
 // Closes a site with both of its callers, and looks at its yard.
 fn close<H: Host>(
-    end: ServeEnd,
+    end: ServeEnd<NoNumbers>,
     faults: Faults,
     supply: Supply,
     site: Site<H>,
@@ -148,23 +158,19 @@ fn close<H: Host>(
     teller: CallerOf<H>,
 ) -> Closed<H>
     requires faults { end ≡ AcceptFaults → FailedToAccept (suffices supply) faults.count }
-    requires count { EndsAtCount end H.Callers.admissions (caller_share admitter) }
-    requires most { LetsInAtMost end H.Callers.admissions (caller_share admitter) }
+    requires count { end ≡ Count → H.Callers.admissions ≡ Some (caller_share admitter) }
+    requires most { ForSome H.Callers.admissions (λ most. caller_share admitter ≤ most) }
     requires both { H.Callers.parts ≡ CALLERS }
     ensures end { result.end ≡ end }
     ensures faults { result.faults ≡ faults }
 {
     let (admitter_then, teller_then) = (Snapshot::of(&admitter), Snapshot::of(&teller));
-    let Caller {
-        number: _,
-        mut share,
-    } = admitter;
+    let mut share = admitter.share;
     share.merge(teller.share);
     let yard = site.close(share);
     let retired = yard.journal().report().retired;
     let last = Last {
         has_lost: retired != yard.live(),
-        is_spent: yard.journal().events() == u64::MAX,
         is_retired: retired >= yard.limit(),
     };
     Closed {

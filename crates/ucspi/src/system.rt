@@ -19,7 +19,7 @@ use std::rt::Env;
 use std::sync::{Mutex, Wait};
 use std::thread::Threads;
 use std::time::Clock;
-use tcp_service::{AgentGround, Host};
+use tcp_service::{Host, ServiceGround};
 use tcp_streams::{Connection, ProgramStarter, ServiceJob};
 
 /// What the tool has of the system. It is a name for these types together, and has no values.
@@ -127,7 +127,7 @@ impl<'a, P: System, L: Assumptions + Send + Sync, N: Callers + Send + Sync> Grou
     ghost is_servers = { true };
 }
 
-impl<'a, P: System, L: Assumptions + Send + Sync, N: Callers + Send + Sync> AgentGround
+impl<'a, P: System, L: Assumptions + Send + Sync, N: Callers + Send + Sync> ServiceGround
     for OnSystem<'a, P, L, N> {
     type Runtime = P::Runtime;
 

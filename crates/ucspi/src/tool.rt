@@ -27,7 +27,7 @@ use server_events::Journal;
 use server_log::Log;
 use server_parts::causes::tell_failure;
 use server_parts::limits::supply_for;
-use server_parts::opening::{find_rules, names_of, plan_of, print_port, stand_in};
+use server_parts::opening::{find_rules, hold_standard, names_of, plan_of, print_port};
 use server_parts::signals::forgets_programs;
 use server_parts::{RulesOnDisk, RulesPath, ServerFailure, ServerFault, TcpserverFault};
 use server_words::{Level, ServerWords, read_server_words};
@@ -77,7 +77,7 @@ where
     ensures answers { AnswersWords (plan_by_words (mode_by_name voice) (map text_in (texts_of words.now))) result }
 {
     let alloc = rt.alloc();
-    let _held = [stand_in(rt), stand_in(rt), stand_in(rt)];
+    let _held = hold_standard(rt);
     let texts = texts_of(alloc, words)?;
     let lines = Patient::new(rt, errors);
     run_words::<SystemOf<'_, R, E>>(rt, (lines, errors), texts.as_slice(), voice, causes)
@@ -250,7 +250,7 @@ fn tell_names<R: Files<File = File> + Wait, E: Write + Drop>(
     words: &ServerWords<'_>,
 ) {
     let has_names = words.hosts().is_some() && words.names_remote();
-    if !has_names && words.level() == Level::All && rules.name_someone(alloc) {
+    if !has_names && words.level() == Level::All && rules.has_named_rule(alloc) {
         let _ = log.lock(rt).no_names();
     }
 }

@@ -1,24 +1,19 @@
 -- What a call of a yard keeps and makes, after its caller spoke.
-use Rattle.std.proofs.Common.{◌≡◌, ◌<◌, ◌-◌, ◌^◌, ◌==◌, ℕ, true, refl, ap, subst, sym, ◌∙◌}
-use Rattle.std.specs.Prelude.{IfSome, IsTrue, None, Option, Result, Some, if◌then◌else◌, is_some, option_map}
+use Rattle.std.proofs.Common.{◌≡◌, ◌<◌, ◌-◌, ◌^◌, ◌==◌, ℕ, refl, ap, subst, sym, ◌∙◌}
+use Rattle.std.specs.Prelude.{IfSome, None, Option, Result, Some, if◌then◌else◌, is_some, option_map}
 use Rattle.server_events.specs.Journals.{one_more}
 use Rattle.rules_install.specs.Installing.{Installing}
 use Rattle.dir_calls.specs.declared.phase.Phase.{Phase}
 use Rattle.rules_install.specs.declared.fault.InstallFault.{InstallFault}
 use Rattle.server_events.specs.declared.event.Event.{Event}
-use Rattle.server_yard.specs.Rolls.{Notes, NotesSome, Roll}
-use Rattle.server_yard.specs.Serving.{is_plain, with_roll}
-use Rattle.server_yard.specs.Standing.{LeadsOn, YardState}
+use Rattle.server_yard.specs.Rolls.{NotesSome, Roll}
 use Rattle.server_yard.specs.Stepping.{event_of_step, step_event}
-use Rattle.server_yard.specs.Yards.{IsSameBeside, IsSameButDirectory, MayBegin, kept_under, last_begun, name_of, yard_roll, yard_rules, yard_state}
+use Rattle.server_yard.specs.Yards.{IsSameBeside, IsSameButDirectory, MayBegin, kept_under, last_begun, name_of, yard_rules}
 use Rattle.server_yard.specs.declared.yard.Yard.{Yard}
 use Rattle.shared_site.specs.Receipts.{CountsAtMostOne, receipt_after, receipt_at}
 use Rattle.shared_site.specs.Turns.{IsLastOf, spoken_by}
 use Rattle.shared_site.proofs.Counts.{one_counted, quiet_counted}
 use Rattle.shared_site.proofs.Making.{last_of}
-use Rattle.server_yard.proofs.Keeping.{own_then}
-use Rattle.server_yard.proofs.Matching.{plain_leads}
-use Rattle.whole_yard.specs.YardAgents.{MakesEvent}
 
 -- what a call keeps is as it was before its caller spoke
 pub same_from : {L D F : Type 0} {p : _} {l : _} {d : _} (old mid new : Yard L D F p l d)
@@ -70,19 +65,3 @@ pub last_of_some : (who : ℕ) (event : Option Event) (old mid new : Roll)
     → mid ≡ spoken_by who old → NotesSome event mid new → IfSome event (λ (e : Event). IsLastOf who e new)
 last_of_some who None old mid new speaks noted = tt
 last_of_some who (Some event) old mid new speaks noted = last_of who event event old mid new speaks noted refl
-
--- what a call makes that leaves its yard the same beside its event
-pub makes_then : {L D F : Type 0} {p : _} {l : _} {d : _} (leads : YardState → YardState → Type 0) (event : Event)
-    (old new : Yard L D F p l d) → Notes event (yard_roll old) (yard_roll new) → IsSameBeside old new
-    → (IsTrue l.honest → leads (yard_state old) (with_roll (yard_state old) (yard_roll new))) → MakesEvent leads event old new
-makes_then leads event old new noted same to = record {
-  noted = noted;
-  step = λ honest. subst (λ (z : YardState). leads (yard_state old) z) (sym (own_then old new same)) (to honest);
-}
-
--- the same by an event that neither opens the rules nor decides
-pub makes_plain : {L D F : Type 0} {p : _} {l : _} {d : _} (event : Event) (old new : Yard L D F p l d) → is_plain event ≡ true
-    → Notes event (yard_roll old) (yard_roll new) → IsSameBeside old new → MakesEvent (LeadsOn event) event old new
-makes_plain event old new plain noted same =
-    makes_then (LeadsOn event) event old new noted same
-    (λ honest. plain_leads (yard_state old) event (yard_roll old) (yard_roll new) plain noted)

@@ -1,6 +1,4 @@
--- A yard that makes all calls: as the agent of a connection, its own turns, and whether receipts are its history.
-pub mod YardAgents
+-- A yard that makes all calls: its own turns, and whether receipts are its history.
 pub mod YardTurns
 pub mod Audits
 pub mod Closings
-pub mod Programs

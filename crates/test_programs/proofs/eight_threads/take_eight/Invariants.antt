@@ -1,6 +1,6 @@
 use Rattle.std.specs.Prelude.{◌≡◌, ◌+◌}
+use Rattle.shared_site.specs.Callers.{new_count}
 use Rattle.test_programs.proofs.eight_threads.take_eight.Given as goal
 
--- the share has a part for each caller that is not taken yet, and no event
-abbrev pub invariant-loop-before : goal.invariant-loop-before
-invariant-loop-before g l = (l.share.parts + l.before ≡ 8) × (l.share.amount ≡ 0)
+abbrev pub invariant-loop : goal.invariant-loop
+invariant-loop g l = new_count l.new + l.counter ≡ 8

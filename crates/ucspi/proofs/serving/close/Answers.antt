@@ -9,6 +9,6 @@ invariant_of-result-clause-by_count g c = λ by_count.
     subst (λ n. g.H.Callers.Callers.admissions ≡ Some n) same (c.requires.count by_count)
 
 pub invariant_of-result-clause-most : goal.invariant_of-result-clause-most
-invariant_of-result-clause-most g c = λ otherwise most is.
+invariant_of-result-clause-most g c = λ most is.
     let same : caller_share c.args.admitter ≡ caller_share c.of-admitter_then.result.value = search rules in
-    subst (λ n. n ≤ most) same (c.requires.most otherwise most is)
+    subst (λ n. n ≤ most) same (c.requires.most most is)

@@ -4,6 +4,7 @@ use Rattle.server_yard.specs.Rolls.{IsQuiet, Roll}
 use Rattle.server_yard.specs.Yards.{yard_roll}
 use Rattle.shared_site.specs.Turns.{spoken_by}
 use Rattle.shared_site.proofs.Spoken.{notes_from}
+use Rattle.shared_site.proofs.Counting.{exactly_next}
 use Rattle.shared_site.proofs.Making.{answered, counted, last_of}
 use Rattle.shared_site.proofs.site.AdmitTurn.run.Goals as goal
 
@@ -25,11 +26,10 @@ returns-in-Ok-clause-counts g c =
     (yard_roll c.args.yard.now) (yard_roll c.admit.new.self) (returns-in-Ok-clause-noted g c)
 
 pub returns-in-Ok-clause-answers : goal.returns-in-Ok-clause-answers
-returns-in-Ok-clause-answers g c = (
-  answered c.args.caller (event.Admitted c.in-Ok.serial c.args.self.peer.now) _ c.made.result
-      (yard_roll c.args.yard.now) (yard_roll c.admit.new.self) (returns-in-Ok-clause-noted g c) refl (search rules),
-  tt,
-)
+returns-in-Ok-clause-answers g c =
+    let r = answered c.args.caller (event.Admitted c.in-Ok.serial c.args.self.peer.now) _ c.made.result
+    (yard_roll c.args.yard.now) (yard_roll c.admit.new.self) (returns-in-Ok-clause-noted g c) refl (search rules) in
+    ((r.0, exactly_next _ _ (search rules) (search rules) r.1), tt)
 
 pub returns-in-Ok-clause-notes : goal.returns-in-Ok-clause-notes
 returns-in-Ok-clause-notes g c = λ _. (refl, returns-in-Ok-clause-noted g c)

@@ -1,0 +1,93 @@
+-- How a connection was served, by what was told of it.
+use Rattle.std.proofs.Common.{◌≡◌, ◌≢◌, ◌∙◌, ℕ, Bool, List, [], Option, None, Some, Result, Ok, Err, inl, inr, refl, subst, sym, false}
+use Rattle.std.specs.Prelude.{IfOk, OnErr}
+use Rattle.child_jobs.specs.Ends.{LocalEnd}
+use Rattle.child_jobs.specs.Plans.{PlanText}
+use Rattle.child_jobs.specs.Variables.{Variables}
+use Rattle.child_jobs.specs.declared.outcome.DropCause.{DropCause}
+use Rattle.child_jobs.specs.declared.outcome.DropCause.TheVariants as cause
+use Rattle.child_jobs.specs.declared.outcome.Exit.{Exit}
+use Rattle.child_jobs.specs.declared.outcome.NotStarted.{NotStarted}
+use Rattle.rule_lookup.specs.Peers.{Client}
+use Rattle.rule_lookup.specs.declared.instr.Verdict.TheVariants.{Allow, Deny}
+use Rattle.server_events.specs.declared.event.Event.{Event}
+use Rattle.server_events.specs.declared.event.Event.TheVariants.{Dropped, Ended, Retired, StartFailed}
+use Rattle.tcp_connections.specs.Rounds.{AllFail, EndsAs, FailsToWait, Kills, OneEnds, rounds}
+use Rattle.tcp_service.specs.Lives.{IsEndOfChild}
+use Rattle.tcp_service.specs.Openings.{Opening}
+use Rattle.tcp_service.specs.Servings.{EndsFor, FailsFor, GivesUp, IsDecided, Refuses, is_cut_short}
+
+-- what needs no reason, needs none of any
+pub given_up_anyway : (fails : DropCause → Type 0) (why : DropCause) → GivesUp (λ _. ⊥) [] why → GivesUp fails [] why
+given_up_anyway fails cause.Denied gives = gives
+given_up_anyway fails cause.Banner gives = gives
+given_up_anyway fails cause.Directory gives = tt
+given_up_anyway fails cause.ReadFault gives = absurd gives
+given_up_anyway fails cause.Damaged gives = absurd gives
+given_up_anyway fails cause.Memory gives = tt
+
+-- what was given up without a banner was given up for another cause
+pub with_banner : (fails : DropCause → Type 0) (banner : List ℕ) (why : DropCause) → GivesUp fails [] why → GivesUp fails banner why
+with_banner fails banner cause.Denied gives = gives
+with_banner fails banner cause.Banner gives = absurd (gives refl)
+with_banner fails banner cause.Directory gives = tt
+with_banner fails banner cause.ReadFault gives = gives
+with_banner fails banner cause.Damaged gives = gives
+with_banner fails banner cause.Memory gives = tt
+
+pub uncut : (fails : DropCause → Type 0) (n : ℕ) (why : DropCause) → GivesUp fails [] why → is_cut_short (Dropped n why) ≡ false
+uncut fails n cause.Denied gives = refl
+uncut fails n cause.Banner gives = absurd (gives refl)
+uncut fails n cause.Directory gives = refl
+uncut fails n cause.ReadFault gives = refl
+uncut fails n cause.Damaged gives = refl
+uncut fails n cause.Memory gives = refl
+
+-- nor for a denial
+pub undenied : (fails : DropCause → Type 0) (banner : List ℕ) (why : DropCause) → GivesUp fails banner why → why ≢ cause.Denied
+undenied fails banner why gives is = subst (GivesUp fails banner) is gives
+
+module _ (finds : (serial : ℕ) → Opening → Type 0) (honest sound : Bool) (serial : ℕ) (peer : Client) (local : LocalEnd)
+    (plan : PlanText) (refuses : Refuses) (decided : Option Event) (end : Event) where
+  -- undecided
+  pub ends_given_up : (why : DropCause) → decided ≡ None → end ≡ Dropped serial why
+      → GivesUp (FailsFor (finds serial) honest sound peer) plan.banner why
+      → EndsFor finds honest sound serial peer local plan refuses decided end
+  ends_given_up why undecided ends gives =
+      subst (λ (d : Option Event). EndsFor finds honest sound serial peer local plan refuses d end) (sym undecided)
+      (subst (λ (e : Event). EndsFor finds honest sound serial peer local plan refuses None e) (sym ends) (refl, gives))
+
+  -- denied
+  pub ends_denied : (event : Event) (environment : Variables) → decided ≡ Some event → end ≡ Dropped serial cause.Denied
+      → IsDecided finds honest sound serial peer local plan event Deny environment
+      → EndsFor finds honest sound serial peer local plan refuses decided end
+  ends_denied event environment is ends denied =
+      subst (λ (d : Option Event). EndsFor finds honest sound serial peer local plan refuses d end) (sym is)
+      (subst (λ (e : Event). EndsFor finds honest sound serial peer local plan refuses (Some event) e) (sym ends)
+      (refl, record { environment = environment; denied = denied }))
+
+  -- allowed, and its program refused
+  pub ends_refused : (event : Event) (environment : Variables) (refusal : NotStarted) → decided ≡ Some event
+      → end ≡ StartFailed serial refusal.fault
+      → IsDecided finds honest sound serial peer local plan event Allow environment
+      → refuses plan.program environment refusal
+      → EndsFor finds honest sound serial peer local plan refuses decided end
+  ends_refused event environment refusal is ends allowed refused =
+      subst (λ (d : Option Event). EndsFor finds honest sound serial peer local plan refuses d end) (sym is)
+      (subst (λ (e : Event). EndsFor finds honest sound serial peer local plan refuses (Some event) e) (sym ends) (
+        refl,
+        record {
+          environment = environment;
+          allowed = allowed;
+          refused = record { refusal = refusal; refused = refused; told = refl };
+        },
+      ))
+
+-- how a child ended, or that all rounds failed, by how the waits for it went
+pub end_told : {P C J : Type 0} (waited : Result (P × Exit) C) (kills : Kills J) (fails : FailsToWait J) (ends : EndsAs J)
+    (job : J) (serial : ℕ) (last then : Event) → last ≡ then
+    → IfOk waited (λ r. OneEnds kills fails ends rounds job r.1.status) → OnErr waited (AllFail kills fails rounds job)
+    → IfOk waited (λ r. then ≡ Ended serial r.1.status) → OnErr waited (then ≡ Retired serial)
+    → IsEndOfChild kills fails ends job last serial
+end_told (Ok r) kills fails ends job serial last then is its none told untold = inl (r.1.status, its, is ∙ told)
+end_told (Err child) kills fails ends job serial last then is none its untold told = inr (its, is ∙ told)

@@ -1,0 +1,34 @@
+-- What the values of a connection's life are evidence of.
+use Rattle.std.specs.Prelude.{Bool, false, Option, Result, Ok, Err, option_map}
+use Rattle.std.specs.declared.snapshot.Snapshot.{Snapshot}
+use Rattle.server_events.specs.declared.event.Event.{Event}
+use Rattle.shared_site.specs.Receipts.{made_event}
+use Rattle.shared_site.specs.declared.receipt.Made.{Made}
+use Rattle.tcp_service.specs.Lives.{asked}
+use Rattle.tcp_service.specs.Servings.{is_cut_short}
+use Rattle.tcp_service.specs.declared.life.Over.{Over}
+use Rattle.tcp_service.specs.declared.telling.Begun.{Begun}
+use Rattle.tcp_service.specs.declared.telling.Noted.{Noted}
+
+-- the event that notes a decision
+abbrev pub noted_event : Noted → Event
+noted_event noted = made_event noted.made
+
+-- of a connection whose program runs: the event that notes its decision, and the event that was asked for last
+abbrev pub begun_decided : Begun → Event
+begun_decided begun = made_event begun.decided.value
+
+abbrev pub begun_last : Begun → Event
+begun_last begun = asked begun.last.value
+
+-- of a connection that is over: the event that notes its decision, if it ended by that, and the event that ended it
+abbrev pub over_decided : Over → Option Event
+over_decided over = option_map (λ (made : Snapshot Made). made_event made.value) over.decided
+
+abbrev pub over_end : Over → Event
+over_end over = asked over.last.value
+
+-- a connection was given up since its banner could not be sent
+abbrev pub is_cut : {T : Type 0} → Result T Over → Bool
+is_cut (Ok alive) = false
+is_cut (Err over) = is_cut_short (over_end over)

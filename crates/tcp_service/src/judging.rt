@@ -1,0 +1,177 @@
+//! How a connection is decided: by what a handle of its own finds when it opens the rules. No other connection waits
+//! meanwhile.
+ghost use Rattle.std.specs.Prelude.{◌≡◌, [], IfErr, IfOk};
+ghost use Rattle.server_yard.specs.Passes.{pass_serial};
+ghost use Rattle.tcp_service.specs.Ends.{noted_event};
+ghost use Rattle.tcp_service.specs.Openings.{IsFoundFor, cause_of, cause_of_open, opening_of};
+ghost use Rattle.tcp_service.specs.Servings.{FailsFor, GivesUp, IsDecided};
+
+use crate::greeting::Greeted;
+use crate::host::{Rules, RulesHandle, ServiceGround};
+use crate::reasons::{Reason, words_of};
+use crate::server::Context;
+use crate::telling::Noted;
+use child_jobs::{DropCause, Environment, Local, build};
+use dir_calls::DirFault;
+use rule_lookup::{DecideFault, FindFault, Peer, Verdict, decide};
+use server_yard::Pass;
+
+/// A connection that was decided: the evidence that this is noted, the verdict, and the variables for its program.
+pub(crate) struct Judged {
+    pub noted: Noted,
+    pub verdict: Verdict,
+    pub environment: Environment,
+}
+
+/// Why a connection is given up, and what the log tells of it.
+#[derive(Drop)]
+pub(crate) struct GivenUp {
+    pub cause: DropCause,
+    pub reason: Option<Reason>,
+}
+
+// The cause with which a connection is dropped if the rules can't be opened.
+fn cause_of_open(fault: DirFault) -> DropCause
+    ensures { result ≡ cause_of_open fault }
+{
+    match fault {
+        DirFault::NoScratch | DirFault::NoName | DirFault::Device => DropCause::Directory,
+        DirFault::OutOfMemory => DropCause::Memory,
+    }
+}
+
+// The cause with which a connection is dropped if its decision fails.
+fn cause_of(fault: DecideFault) -> DropCause
+    ensures { result ≡ cause_of fault }
+{
+    match fault {
+        DecideFault::Find(FindFault::Device) => DropCause::ReadFault,
+        DecideFault::Find(FindFault::OutOfMemory) | DecideFault::OutOfMemory => DropCause::Memory,
+        DecideFault::Find(FindFault::Short) | DecideFault::Code(_) => DropCause::Damaged,
+    }
+}
+
+impl<G: ServiceGround> Context<'_, G> {
+    // Opens the rules for the connection with this serial number.
+    #[tactic(auto, using(crate::proofs::Found::found_for))]
+    fn open(
+        &self,
+        greeted: Greeted<'_>,
+        handle: &mut G::Handle,
+        serial: u64,
+    ) -> Result<Pass<G::Places, G::File>, DropCause>
+        requires greeted { greeted.banner.now ≡ self.now.plan.now.banner }
+        requires new { G.Rules.gives self.now.rules.now handle.old }
+        ensures its { IfOk result (λ pass. pass_serial pass ≡ serial) }
+        ensures found { IfOk result (λ pass.
+            IsFoundFor (G.Rules.gives self.now.rules.now) G.Handle.opened serial (opening_of G.File.bytes pass)) }
+        ensures given_up { IfErr result (GivesUp (λ _. ⊥) []) }
+    {
+        match handle.open(self.alloc, serial) {
+            Ok(finding) => self.opened(greeted, serial, finding),
+            Err(fault) => Err(cause_of_open(fault)),
+        }
+    }
+
+    // Opens the rules for a connection, decides it by them, makes the variables for its program, and notes the
+    // decision.
+    #[tactic(auto, using(crate::proofs::Served::given_up_anyway))]
+    fn judge(
+        &self,
+        greeted: Greeted<'_>,
+        handle: &mut G::Handle,
+        serial: u64,
+        peer: &Peer,
+        local: &Local,
+    ) -> Result<Judged, DropCause>
+        requires greeted { greeted.banner.now ≡ self.now.plan.now.banner }
+        requires new { G.Rules.gives self.now.rules.now handle.old }
+        ensures judged { IfOk result (λ judged. IsDecided (IsFoundFor (G.Rules.gives self.now.rules.now) G.Handle.opened)
+            G.File.honest G.File.sound serial peer.now local.now self.now.plan.now
+            (noted_event judged.noted) judged.verdict judged.environment) }
+        ensures given_up { IfErr result (GivesUp
+            (FailsFor (IsFoundFor (G.Rules.gives self.now.rules.now) G.Handle.opened serial)
+            G.File.honest G.File.sound peer.now) []) }
+    {
+        let pass = self.open(greeted, handle, serial)?;
+        let decision = match decide(self.alloc, pass.source(), pass.missing(), peer) {
+            Ok(decision) => decision,
+            Err(fault) => {
+                drop(pass);
+                return Err(cause_of(fault));
+            }
+        };
+        let Ok(environment) = build(self.alloc, self.plan.inherited(), local, peer, &decision)
+        else {
+            drop(pass);
+            drop(decision);
+            return Err(DropCause::Memory);
+        };
+        let verdict = decision.verdict;
+        match self.decided(pass, peer, local, decision) {
+            Ok(noted) => Ok(Judged {
+                noted,
+                verdict,
+                environment,
+            }),
+            Err(cause) => {
+                drop(environment);
+                Err(cause)
+            }
+        }
+    }
+
+    /// Decides a connection that was greeted, by what a new handle finds for it.
+    ///
+    /// # Errors
+    /// The rules can't be opened or read, or are damaged; or there was no memory. It is not decided.
+    pub(crate) fn decide(
+        &self,
+        greeted: Greeted<'_>,
+        serial: u64,
+        peer: &Peer,
+        local: &Local,
+    ) -> Result<Judged, GivenUp>
+        requires greeted { greeted.banner.now ≡ self.now.plan.now.banner }
+        ensures judged { IfOk result (λ judged. IsDecided (IsFoundFor (G.Rules.gives self.now.rules.now) G.Handle.opened)
+            G.File.honest G.File.sound serial peer.now local.now self.now.plan.now
+            (noted_event judged.noted) judged.verdict judged.environment) }
+        ensures given_up { IfErr result (λ up. GivesUp
+            (FailsFor (IsFoundFor (G.Rules.gives self.now.rules.now) G.Handle.opened serial)
+            G.File.honest G.File.sound peer.now) [] up.cause) }
+    {
+        let Ok(mut handle) = self.rules.handle(self.alloc) else {
+            drop(greeted);
+            return Err(GivenUp {
+                cause: DropCause::Memory,
+                reason: None,
+            });
+        };
+        match self.judge(greeted, &mut handle, serial, peer, local) {
+            Ok(judged) => {
+                drop(handle);
+                Ok(judged)
+            }
+            Err(cause) => {
+                let reason = self.reason_of(&handle, cause, peer);
+                drop(handle);
+                Err(GivenUp { cause, reason })
+            }
+        }
+    }
+
+    // Why the rules could not be opened or read, or which rule is damaged.
+    fn reason_of(&self, handle: &G::Handle, cause: DropCause, peer: &Peer) -> Option<Reason> {
+        match cause {
+            DropCause::Directory | DropCause::ReadFault => {
+                let error = self.rules.error(handle);
+                Some(Reason::Rules(words_of(self.alloc, error)?))
+            }
+            DropCause::Damaged => {
+                let address = self.rules.damaged_rule(self.alloc, peer)?;
+                Some(Reason::Rule(address))
+            }
+            _ => None,
+        }
+    }
+}
