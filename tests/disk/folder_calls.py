@@ -20,7 +20,7 @@ def file_of(content):
 REPLACEMENT = "fresh tmp append abc append def patch 1 XY sync rename tmp rules settle open rules open tmp failures"
 ANSWERS = ["done", "3", "3", "done", "done", "done", "done", file_of(b"aXYdef"), "none", "0"]
 # how often a replacement of a file looks at the folder and at files
-LOOKS = 22
+LOOKS = 24
 DEVICE = "device fault"
 WHOLE = file_of(b"aXYdef")
 # how many words stand behind the name of a call, where it is not one

@@ -113,8 +113,9 @@ def documented(handed):
 def told_limits(handed):
     """What a server of the source says it needs at least, in bytes: of address space, and of data."""
     with open(os.path.join(TOP, "crates", "server_parts", "src", "limits.rt"), encoding="utf-8") as file:
-        known = {name: int(value.replace("_", "")) for name, value in re.findall(r"^const (\w+_ALONE): u64 = ([\d_]+);$", file.read(), re.M)}
-    connection = known["START_ALONE"] + (0 if handed else known["PUMPED_ALONE"])
+        numbers = re.findall(r"^const (\w+): (?:u64|usize) = ([\d_]+)(?: \* ([\d_]+))?;$", file.read(), re.M)
+    known = {name: int(value) * int(times or 1) for name, value, times in numbers}
+    connection = known["TEXTS"] * known["PAGE"] + known["START"] + (0 if handed else known["BUFFERS"])
     return [known[name] + connection for name in ("ADDRESSES_ALONE", "DATA_ALONE")]
 
 
