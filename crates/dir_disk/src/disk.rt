@@ -40,8 +40,8 @@ pub trait DiskFile {
         ensures gives { IsTrue honest → IfOk result (λ n. Gives (bytes self.now) position n buf.old buf.new) };
 }
 
-/// A folder of a file system. Each call does what POSIX and Linux promise, if only this process changes the names. A disk
-/// makes calls of the system again that a signal interrupts, as far as such calls have done nothing.
+/// A folder of a file system. Each call does what POSIX and Linux promise, if only this process changes the names. A
+/// disk makes calls of the system again that a signal interrupts, as far as such calls have done nothing.
 pub trait Disk {
     /// An opened file.
     type File: DiskFile + Drop;

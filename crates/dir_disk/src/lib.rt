@@ -2,9 +2,9 @@
 //!
 //! `DiskDir` is an honest directory if its disk keeps the clauses of `Disk`, which say what POSIX and Linux promise of
 //! each call. `OsDir` and `LockedDir`, which the tools use, are `DiskDir`s over `SystemDisk`. Each method of
-//! `SystemDisk` is a call of std's with the looks before it, made again if a signal interrupts it, and only its safety is
-//! proved: that it keeps the clauses is the premise. Only tests show that one process at a time installs, that another
-//! folder at the path is refused, and which error is noted.
+//! `SystemDisk` is a call of std's with the looks before it, made again if a signal interrupts it, and only its safety
+//! is proved: that it keeps the clauses is the premise. Only tests show that one process at a time installs, that
+//! another folder at the path is refused, and which error is noted.
 #![tactic(auto)]
 
 pub mod disk;

@@ -141,13 +141,22 @@ pub(crate) fn check_file(found: &Metadata) -> io::Result<()> {
     Err(io::Error::from_raw_os_error(error))
 }
 
-/// Checks that a file which was looked at is not the standard input. With it the text would be lost that is read.
-pub(crate) fn check_not_input<R: Files>(files: &R, found: &Metadata) -> io::Result<()> {
+// Checks that a file which was looked at is not the standard input. With it the text would be lost that is read.
+fn check_not_input<R: Files>(files: &R, found: &Metadata) -> io::Result<()> {
     match files.metadata(INPUT) {
         Ok(input) if Identity::of(&input) == Identity::of(found) => {
             Err(io::Error::from_raw_os_error(IN_USE))
         }
         _ => Ok(()),
+    }
+}
+
+/// Checks that a file may be moved to this path: nothing stands there, or something that is not the standard input.
+pub(crate) fn check_onto<R: Files>(files: &R, path: &str) -> io::Result<()> {
+    match files.symlink_metadata(path) {
+        Ok(found) => check_not_input(files, &found),
+        Err(error) if error.kind() == ErrorKind::NotFound => Ok(()),
+        Err(error) => Err(error),
     }
 }
 

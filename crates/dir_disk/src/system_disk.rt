@@ -6,8 +6,7 @@ ghost use Rattle.dir_disk.specs.OsParts.{system_folder};
 use crate::disk::{Disk, DiskFile, Look};
 use crate::failure::{FailedOn, Notes, store};
 use crate::lock::{
-    HIDDEN, Waits, check_file, check_not_input, complete, is_taken, make_claimed, read_mask,
-    take_free,
+    HIDDEN, Waits, check_file, check_onto, complete, is_taken, make_claimed, read_mask, take_free,
 };
 use dir_calls::Name;
 use std::alloc::{AllocError, Global};
@@ -210,10 +209,8 @@ impl<R: Files<File = File> + Drop, W: Waits + Drop> SystemDisk<R, W> {
         let same = check_same(file.metadata(), self.files.symlink_metadata(path));
         self.notes.note(FailedOn::Name, same)?;
         let onto = self.onto.as_str();
-        if let Ok(found) = self.files.symlink_metadata(onto) {
-            let kept = check_not_input(&self.files, &found);
-            self.notes.note(FailedOn::Onto, kept)?;
-        }
+        let kept = check_onto(&self.files, onto);
+        self.notes.note(FailedOn::Onto, kept)?;
         let outcome = self.files.rename(path, onto);
         self.notes.note(FailedOn::Onto, outcome)
     }

@@ -1,8 +1,6 @@
--- What a server has by its words: its program, its names, its rules file, and what its connections take.
+-- What a server has by its words: its program, its names, and what its connections take.
 use Rattle.std.specs.Prelude.{◌≡◌, ℕ, List, Option, Some, None, is_some, option_map, string_bytes}
 use Rattle.child_jobs.specs.Programs.{ProgramText}
-use Rattle.rule_lookup.specs.declared.decision.WhenMissing.{WhenMissing}
-use Rattle.rules_tools.specs.Paths.{IsSplit}
 use Rattle.server_words.specs.Operands.{Service}
 use Rattle.server_words.specs.Plans.{ServerPlan}
 use Rattle.server_words.specs.declared.mode.Mode.{Mode}
@@ -21,16 +19,6 @@ pub record AreNamesOf (words : ServerPlan) (names : HostNames) : Type 0 where
   pub local : option_map string_bytes names.local ≡ words.local
   pub remote : names.remote ≡ words.names_remote
   pub confirm : names.confirm ≡ words.confirms
-
--- the name of the rules file is the last part of the path of `-x`, and `-X` says what it means that it is missing;
--- without `-x` there is none
-abbrev pub AreRulesBy : Option (List ℕ) → WhenMissing → Option (List ℕ × WhenMissing) → Type 0
-AreRulesBy None missing rules = rules ≡ None
-AreRulesBy (Some path) missing None = ⊥
-AreRulesBy (Some path) missing (Some (name, told)) = ((folder : List ℕ) × IsSplit path folder name) × (told ≡ missing)
-
-abbrev pub AreRulesOf : ServerPlan → Option (List ℕ × WhenMissing) → Type 0
-AreRulesOf words rules = AreRulesBy words.rules words.missing rules
 
 -- the descriptors that a connection takes until its program runs, and from then on: its own and that of the rules file,
 -- if it is handed over; else its own and both ends of two pipes, and then its own and an end of each

@@ -1,7 +1,7 @@
 //! What `tcpserver` has of the system: the path of its rules, and the files, the folder and the socket that its words
 //! ask for; its limits; and the lines of causes behind that of a fault.
 //!
-//! `ucspi` uses `names_of`, `find_rules`, `plan_of`, `listen`, `print_port`, `supply_for`, `hold_standard`,
+//! `ucspi` uses `names_of`, `plan_of`, `listen`, `print_port`, `supply_for`, `hold_standard`,
 //! `forgets_programs`, `RulesPath` and `tell_failure`.
 //!
 //! Tested only: the look for a damaged rule, and lines of causes.

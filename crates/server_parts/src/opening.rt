@@ -1,16 +1,12 @@
 //! What a server opens before it begins: its files, folder, socket and program.
 ghost use Rattle.std.specs.Prelude.{◌≡◌, ◌⊎◌, [], map, string_bytes, IsTrue, IfOk, IfErr, Some};
-ghost use Rattle.server_parts.specs.Asked.{FailsNames, FailsRules, IsAskedPlan};
-ghost use Rattle.server_parts.specs.Services.{AreNamesOf, AreRulesOf};
+ghost use Rattle.server_parts.specs.Asked.{FailsNames, IsAskedPlan};
+ghost use Rattle.server_parts.specs.Services.{AreNamesOf};
 ghost use Rattle.server_parts.specs.declared.fault.ServerFault.TheVariants.{CannotListen, WriteFault};
 ghost use Rattle.stream_tools.specs.Entries.{with_entries};
 
 use crate::fault::{ServerFailure, ServerFault};
 use child_jobs::{HostFault, HostTable, Plan, Program};
-use dir_calls::{Name, NameFault};
-use dir_disk::{FolderFault, find_folder};
-use rule_lookup::WhenMissing;
-use rules_tools::path::{folder_path, split_path};
 use server_words::ServerWords;
 use std::alloc::{AllocError, Global};
 use std::fs::{File, Files};
@@ -83,43 +79,6 @@ fn read_hosts<F: Files + AllocGlobal>(
         Ok(table) => Ok(table),
         Err(HostFault::BadLine(line)) => Err(ServerFailure::from(ServerFault::BadHosts(line))),
         Err(HostFault::OutOfMemory) => Err(ServerFailure::from(ServerFault::OutOfMemory)),
-    }
-}
-
-/// The name of the rules file in its folder, which is looked at, with what is done if the file is missing; `None`
-/// without a rules file.
-///
-/// # Errors
-/// `Device` if the folder can't be used, or the last part of the path is no name; `OutOfMemory`.
-pub fn find_rules<R: Files>(
-    alloc: Global,
-    files: &R,
-    words: &ServerWords<'_>,
-) -> Result<Option<(Name, WhenMissing)>, ServerFailure>
-    ensures asked { IfOk result (AreRulesOf words.now) }
-    ensures refused { IfErr result (λ failure. FailsRules failure.fault) }
-{
-    let Some(path) = words.rules() else {
-        return Ok(None);
-    };
-    let (folder, name) = split_path(path);
-    if let Err(refused) = find_folder(files, folder_path(folder)) {
-        let fault = match refused.fault {
-            FolderFault::OutOfMemory => ServerFault::OutOfMemory,
-            FolderFault::NoFolder | FolderFault::Device => ServerFault::Device,
-        };
-        let error = refused.error;
-        return Err(ServerFailure { fault, error });
-    }
-    match Name::new(alloc, name.as_bytes()) {
-        Ok(name) => Ok(Some((name, words.missing()))),
-        Err(NameFault::OutOfMemory) => Err(ServerFailure::from(ServerFault::OutOfMemory)),
-        // (a path that ends with a slash, or by one or two dots, leads to a folder)
-        Err(NameFault::Empty | NameFault::Dots) => Err(ServerFailure {
-            fault: ServerFault::Device,
-            error: Some(libc::EISDIR),
-        }),
-        Err(_) => Err(ServerFailure::from(ServerFault::Device)),
     }
 }
 

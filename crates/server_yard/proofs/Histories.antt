@@ -41,7 +41,7 @@ pub stored_on : (stored : Option (List Noted)) (n : Noted) (h : List Event) → 
 stored_on None n h same = tt
 stored_on (Some notes) n h same = map-push notes n ∙ ap (λ (es : List Event). es ++ n.event ∷ []) same
 
--- what a register has after an event, and what its journal tells then
+-- what a yard has after an event, and what its journal tells then
 pub record OneMore (books : Books) (s : ServerState) (e : Event) (caller : ℕ) (books' : Books) (s' : ServerState) : Type 0 where
   pub small : s.limit < 2 ^ 64
   pub fits : FitsSerial e

@@ -7,27 +7,22 @@ use Rattle.rule_lookup.specs.Decisions.{decision_from}
 use Rattle.rule_lookup.specs.Peers.{Client}
 use Rattle.rule_lookup.specs.declared.decision.Decision.{Decision}
 use Rattle.rule_lookup.specs.declared.decision.WhenMissing.{WhenMissing}
-use Rattle.server_yard.specs.declared.finding.Finding.{Finding}
 use Rattle.server_yard.specs.declared.pass.Pass.{Pass}
 
 -- the serial of its connection
-abbrev pub pass_serial : {L F : Type 0} {p : _} {l : _} {f : _} → Pass L F p l f → ℕ
+abbrev pub pass_serial : {L F : Type 0} → Pass L F → ℕ
 pass_serial pass = pass.serial
 
 -- what is decided without a file
-abbrev pub pass_missing : {L F : Type 0} {p : _} {l : _} {f : _} → Pass L F p l f → WhenMissing
+abbrev pub pass_missing : {L F : Type 0} → Pass L F → WhenMissing
 pass_missing pass = pass.missing
 
--- the file that was found by a handle of the connection's own
-abbrev pub finding_file : {L F : Type 0} {p : _} {l : _} {f : _} → Finding L F p l f → Option F
-finding_file finding = finding.file
-
 -- the file that was found
-abbrev pub pass_file : {L F : Type 0} {p : _} {l : _} {f : _} → Pass L F p l f → Option F
+abbrev pub pass_file : {L F : Type 0} → Pass L F → Option F
 pass_file pass = pass.file
 
 -- the bytes of the file that was found
-abbrev pub pass_bytes : {L F : Type 0} {p : _} {l : _} {f : _} → (F → List ℕ) → Pass L F p l f → Option (List ℕ)
+abbrev pub pass_bytes : {L F : Type 0} → (F → List ℕ) → Pass L F → Option (List ℕ)
 pass_bytes bytes pass = option_map bytes (pass_file pass)
 
 -- what a file holds is known as far as its source knows it; without a file it is known
@@ -36,8 +31,8 @@ trust_in honest sound None = Sound
 trust_in honest sound (Some bytes) = trust_of honest sound
 
 -- `decide` decides so by what a pass has, for this peer, as far as what the file holds is known
-abbrev pub IsDecidedBy : {L F : Type 0} {p : _} {l : _} {f : _} → (honest sound : Bool) → (bytes : F → List ℕ)
-    → Pass L F p l f → Client → Decision → Type 0
+abbrev pub IsDecidedBy : {L F : Type 0} → (honest sound : Bool) → (bytes : F → List ℕ)
+    → Pass L F → Client → Decision → Type 0
 IsDecidedBy honest sound bytes pass peer decision =
     WhereKnown (trust_in honest sound (pass_bytes bytes pass))
     (decision_from (option_map reading (pass_bytes bytes pass)) (pass_missing pass) peer ≡ Ok decision)

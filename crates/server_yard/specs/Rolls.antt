@@ -65,6 +65,12 @@ HasHistory books server = ∥ ((history : List Event) × IsHistory books server 
 abbrev pub StoresNothing : Books → Type 0
 StoresNothing books = IfSome books.notes (λ notes. notes ≡ [])
 
+-- a journal has no event, and no rules
+pub record HasNoEvents (books : Books) : Type 0 where
+  pub tells : TellsOf books []
+  pub stores : StoresNothing books
+  pub no_rules : IfSome books.lists (λ all. all ≡ [])
+
 -- the stage of the connection that has a seat
 abbrev pub stage_at : Option ℕ → ServerState → Option Stage
 stage_at seat server = option_and_then (λ n. stage_of n server.connections) seat

@@ -1,29 +1,17 @@
-//! The yard: the connections of a server, the rules that they open and the installations beside them, one event after
-//! another.
+//! The yard: the connections of a server with their places, and the journal of all events.
 //!
-//! Two kinds of calls tie code to the headline. `make_step` makes each step of an installation. Each call of `Yard` that
-//! is an event is one event of the table over any directory (`noted`). It is also one step of the headline's world: over
-//! an honest directory if it calls that (`step`), and by an event of a connection over whatever directory other
-//! processes left (`laws::noted_leads`).
-//! The type keeps the rest, so a caller has no premise. `tcpserver` opens the rules outside the lock and uses `opened`.
-//! Only tests use `new`, and also `open`, `install_begin` and `install_step`, since `tcprules` is another process. The
-//! headline speaks of a yard that makes all of these calls. `tcp_service` says which thread makes which call.
+//! Each call of `Yard` that is an event is one event of the table (`noted`), and a step of the headline's world over
+//! whatever directory others left (`whole_yard::laws::noted_leads`). The type keeps the rest, so a caller has no
+//! premise. `tcpserver` opens the rules outside the lock and uses `opened`. It installs nothing: `tcprules` is another
+//! process. The calls of `beside` note installations in the same journal. Only the whole yard makes them, of which the
+//! headline speaks. `tcp_service` says which thread makes which call.
 #![tactic(auto)]
 
-pub mod assumptions;
-pub mod finding;
-pub mod install_laws;
-pub mod laws;
+mod beside;
 pub mod leaving;
 pub mod pass;
-mod register;
-pub mod step;
-mod stepping;
 pub mod yard;
 
-pub use assumptions::Assumptions;
-pub use finding::Finding;
 pub use leaving::Leaving;
 pub use pass::Pass;
-pub use register::AdmitFault;
-pub use yard::Yard;
+pub use yard::{AdmitFault, Yard};

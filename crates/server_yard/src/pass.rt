@@ -1,26 +1,23 @@
 //! What a connection found when it opened the rules.
-ghost use Rattle.std.specs.Prelude.{◌≡◌, IsTrue, option_copied, option_map};
-ghost use Rattle.server_yard.specs.Installed.{IsWholeFile};
+ghost use Rattle.std.specs.Prelude.{◌≡◌, option_copied};
 
-use crate::assumptions::Assumptions;
 use cdb_files::CdbFile;
 use dir_calls::RulesFile;
 use rule_lookup::WhenMissing;
 use std::marker::PhantomData;
+use std::sync::ledger::Ledger;
 
 /// The rules file that a connection opened, or that there was none. It keeps its bytes, whatever becomes of the name.
-/// Only `Yard::open` and `Yard::opened` make one.
+/// Only `Yard::opened` makes one.
 #[derive(Drop)]
-pub struct Pass<L: Assumptions, F: RulesFile + Drop> {
+pub struct Pass<L: Ledger, F: RulesFile + Drop> {
     pub(crate) serial: u64,
     pub(crate) file: Option<CdbFile<F>>,
     pub(crate) missing: WhenMissing,
     pub(crate) yard: PhantomData<L>,
-    /// if its yard's directory is honest and began as it has to, the file is compiled of rules
-    pub ghost whole: { IsTrue L.met → ∥ IsWholeFile (option_map F.bytes file) ∥₁ },
 }
 
-impl<L: Assumptions, F: RulesFile + Drop> Pass<L, F> {
+impl<L: Ledger, F: RulesFile + Drop> Pass<L, F> {
     ghost use Rattle.server_yard.specs.Passes.{pass_file, pass_missing, pass_serial};
 
     /// The file that decides, if there is one.

@@ -1,8 +1,6 @@
 -- What a turn makes of a yard, and what it leaves as it was.
-use Rattle.std.proofs.Common.{◌≡◌, ℕ, Bool, true, ap, inr, refl, subst, ◌∙◌}
+use Rattle.std.proofs.Common.{◌≡◌, ℕ, Bool, true, ap, refl, subst, ◌∙◌}
 use Rattle.std.specs.Prelude.{None, Option, Some}
-use Rattle.dir_calls.specs.declared.dir.Dir as dir
-use Rattle.dir_calls.specs.declared.rules_file.RulesFile as file
 use Rattle.server_events.specs.Journals.{one_more}
 use Rattle.server_events.specs.ServerState.{is_started}
 use Rattle.server_events.specs.declared.event.Event.{Event}
@@ -13,19 +11,15 @@ use Rattle.server_yard.specs.Leavings.{leaving_event}
 use Rattle.server_yard.specs.Rolls.{Notes, Roll, number_at, stage_at}
 use Rattle.server_yard.specs.Seating.{KeepsSeats}
 use Rattle.server_yard.specs.Yards.{IsSameBeside, stage_of_place, yard_roll, yard_seat}
-use Rattle.server_yard.specs.declared.assumptions.Assumptions as assumptions
 use Rattle.server_yard.specs.declared.leaving.Leaving.{Leaving}
 use Rattle.server_yard.specs.declared.leaving.Leaving.TheVariants.{StartFailed, Ended, Dropped}
 use Rattle.server_yard.specs.declared.yard.Yard.{Yard}
-use Rattle.shared_site.specs.Receipts.{CountsAtMostOne, receipt_after, receipt_at, receipt_of}
+use Rattle.shared_site.specs.Receipts.{receipt_after, receipt_at, receipt_of}
 use Rattle.shared_site.specs.Turns.{IsAt, IsLastOf, IsPassedOver, Makes, NotesAs, NotesBy, spoken_by}
 use Rattle.shared_site.specs.declared.receipt.Made.{Made}
 use Rattle.shared_site.proofs.Spoken.{notes_from}
 
--- what its event changes of the number of events, and what its evidence says
-pub counted : (who : ℕ) (event : Event) (old new : Roll) → NotesBy who event old new → CountsAtMostOne old.books.count new.books.count
-counted who event old new noted = inr noted.counts
-
+-- what its evidence says
 pub answered : (who : ℕ) (event shown : Event) (made : Made) (old new : Roll) → NotesBy who event old new → shown ≡ event
     → receipt_of made ≡ receipt_at new.books.count who shown
     → (receipt_of made ≡ receipt_after old.books.count who event) × (new.books.count ≡ one_more old.books.count)
@@ -42,20 +36,16 @@ last_own who event n serial shown old mid new own speaks noted same =
     last_of who (event serial) shown old mid new speaks (subst (λ (m : ℕ). Notes (event m) mid new) own noted) same
 
 -- the same beside the events of both
-beside_then : {L D F : Type 0} {p : _} {l : _} {d : _} (old mid new : Yard L D F p l d)
+beside_then : {L : Type 0} (old mid new : Yard L)
     → IsSameBeside old mid → IsSameBeside mid new → IsSameBeside old new
 beside_then old mid new spoken same = record {
-  directory = same.directory ∙ spoken.directory;
-  rules = same.rules ∙ spoken.rules;
-  installing = same.installing ∙ spoken.installing;
-  kept = same.kept ∙ spoken.kept;
-  begun = same.begun ∙ spoken.begun;
+  missing = same.missing ∙ spoken.missing;
   lists_same = same.lists_same ∙ spoken.lists_same;
 }
 
 -- in turn: the caller spoke, and the yard made its call
-pub made_by : {L D F : Type 0} {p : assumptions.Ghosts L} {d : dir.Ghosts D F} {f : file.Ghosts F}
-    (who : ℕ) (event : Event) (old mid new : Yard L D F p d f)
+pub made_by : {L : Type 0}
+    (who : ℕ) (event : Event) (old mid new : Yard L)
     → IsPassedOver who old mid → Notes event (yard_roll mid) (yard_roll new)
     → IsSameBeside mid new → KeepsSeats (yard_seat mid) (yard_seat new) → Makes who event true old new
 made_by who event old mid new spoken noted same seats = record {
@@ -66,8 +56,8 @@ made_by who event old mid new spoken noted same seats = record {
 }
 
 -- the same of a call for the connection that a place was last given to
-pub made_own : {L D F : Type 0} {p : assumptions.Ghosts L} {d : dir.Ghosts D F} {f : file.Ghosts F}
-    (who : ℕ) (event : ℕ → Event) (n serial : ℕ) (old mid new : Yard L D F p d f)
+pub made_own : {L : Type 0}
+    (who : ℕ) (event : ℕ → Event) (n serial : ℕ) (old mid new : Yard L)
     → n ≡ serial → IsPassedOver who old mid → Notes (event n) (yard_roll mid) (yard_roll new)
     → IsSameBeside mid new → KeepsSeats (yard_seat mid) (yard_seat new) → Makes who (event serial) true old new
 made_own who event n serial old mid new own spoken noted same seats =
@@ -84,8 +74,8 @@ stays who old new spoken = record {
 }
 
 -- a connection stands at its place as before its caller spoke
-pub at_after : {L D F : Type 0} {p : assumptions.Ghosts L} {d : dir.Ghosts D F} {f : file.Ghosts F}
-    (who : ℕ) (passes : Option Stage → Bool) (serial place : ℕ) (old mid : Yard L D F p d f)
+pub at_after : {L : Type 0}
+    (who : ℕ) (passes : Option Stage → Bool) (serial place : ℕ) (old mid : Yard L)
     → IsPassedOver who old mid → IsAt passes serial old place → IsAt passes serial mid place
 at_after who passes serial place old mid spoken at =
     let stays : stage_of_place mid place ≡ stage_of_place old place = λ i. stage_at (spoken.seats place i) ((spoken.roll i).server) in record {

@@ -7,8 +7,8 @@ use Rattle.server_events.specs.ServerState.{ServerState}
 use Rattle.server_events.specs.declared.event.Event.{Event}
 use Rattle.server_events.specs.declared.event.Event.TheVariants.{Admitted, Decided}
 use Rattle.server_yard.specs.Seating.{IsAddressFull, IsSpent}
-use Rattle.server_yard.specs.declared.register.AdmitFault.{AdmitFault}
-use Rattle.server_yard.specs.declared.register.AdmitFault.TheVariants.{Full, FullForAddress, OutOfMemory, Spent}
+use Rattle.server_yard.specs.declared.yard.AdmitFault.{AdmitFault}
+use Rattle.server_yard.specs.declared.yard.AdmitFault.TheVariants.{Full, FullForAddress, OutOfMemory, Spent}
 use Rattle.shared_site.specs.declared.receipt.EventSnapshot.{EventSnapshot}
 use Rattle.shared_site.specs.declared.receipt.Made.{Made}
 use Rattle.shared_site.specs.declared.receipt.OutOfTurn.{OutOfTurn}

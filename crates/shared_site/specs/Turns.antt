@@ -1,13 +1,11 @@
 -- What a turn does to a yard, and when its event is allowed.
 use Rattle.std.specs.Prelude.{◌≡◌, ◌++◌, ◌∷◌, ℕ, Bool, true, List, [], Option, None, Some, Result, Ok, Err, IfNone, IfSome, is_some}
 use Rattle.std.specs.Bool.{OnFalse, OnTrue}
-use Rattle.dir_calls.specs.declared.dir.Dir as dir
-use Rattle.dir_calls.specs.declared.rules_file.RulesFile as file
-use Rattle.server_events.specs.Journals.{one_more}
+use Rattle.server_events.specs.Journals.{FitsSerial, one_more}
 use Rattle.rule_lookup.specs.Peers.{Client}
 use Rattle.server_events.specs.Processes.{is_connections}
 use Rattle.server_events.specs.ServerState.{stage_of}
-use Rattle.server_events.specs.Worlds.{missing_by, peer_of}
+use Rattle.server_events.specs.Worlds.{peer_of}
 use Rattle.server_events.specs.declared.event.Event.{Event}
 use Rattle.server_events.specs.declared.event.Event.TheVariants.{Admitted, Opened}
 use Rattle.server_events.specs.declared.event.Stage.{Stage}
@@ -15,8 +13,7 @@ use Rattle.server_events.specs.declared.event.Stage.TheVariants as stage
 use Rattle.server_yard.specs.Passes.{pass_file, pass_missing, pass_serial}
 use Rattle.server_yard.specs.Rolls.{IsQuiet, Notes, Roll}
 use Rattle.server_yard.specs.Seating.{KeepsSeats}
-use Rattle.server_yard.specs.Yards.{IsSameBeside, number_of, stage_of_place, yard_books, yard_roll, yard_rules, yard_seat, yard_server}
-use Rattle.server_yard.specs.declared.assumptions.Assumptions as assumptions
+use Rattle.server_yard.specs.Yards.{IsSameBeside, number_of, stage_of_place, yard_books, yard_missing, yard_roll, yard_seat, yard_server}
 use Rattle.server_yard.specs.declared.pass.Pass.{Pass}
 use Rattle.server_yard.specs.declared.yard.Yard.{Yard}
 use Rattle.shared_site.specs.Receipts.{receipt_after, receipt_of}
@@ -31,50 +28,47 @@ spoken_by who roll = record roll { speaker = who }
 abbrev pub NotesBy : ℕ → Event → (old new : Roll) → Type 0
 NotesBy who event old new = Notes event (spoken_by who old) new
 
--- this event of a connection was noted, as this caller's; or there was nothing to tell, and no event
+-- this event of a connection was noted, as this caller's, and a serial that it gives fits; or there was nothing to
+-- tell, and no event
 abbrev pub NotesAs : (who : ℕ) → Option Event → (old new : Roll) → Type 0
 NotesAs who None old new = IsQuiet (spoken_by who old) new
-NotesAs who (Some event) old new = (is_connections event ≡ true) × NotesBy who event old new
+NotesAs who (Some event) old new = (is_connections event ≡ true) × NotesBy who event old new × FitsSerial event
 
 -- this event was noted last, as this caller's
 pub record IsLastOf (who : ℕ) (event : Event) (roll : Roll) : Type 0 where
   pub before : Roll
   pub noted : NotesBy who event before roll
 
--- a yard with this ledger, this directory and these files, and what their traits tell of them
-module _ {L D F : Type 0} {p : assumptions.Ghosts L} {d : dir.Ghosts D F} {f : file.Ghosts F} where
-  -- a turn of a caller gave this answer between these states of a yard, as it may by the numbers of events before and
-  -- after it
-  abbrev pub Answers : {A : Type 0} → (answers : ℕ → ℕ → A → ℕ → Type 0) → (who : ℕ) → A
-      → (old new : Yard L D F p d f) → Type 0
-  Answers answers who answer old new = answers who (yard_books old).count answer (yard_books new).count
+-- a turn of a caller gave this answer between these states of a yard, as it may by the numbers of events before and after
+-- it
+abbrev pub Answers : {A L : Type 0} → (answers : ℕ → ℕ → A → ℕ → Type 0) → (who : ℕ) → A → (old new : Yard L) → Type 0
+Answers answers who answer old new = answers who (yard_books old).count answer (yard_books new).count
 
-  -- a yard is as before, but for the speaker
-  pub record IsPassedOver (who : ℕ) (old new : Yard L D F p d f) : Type 0 where
-    pub roll : yard_roll new ≡ spoken_by who (yard_roll old)
-    pub beside : IsSameBeside old new
-    pub seats : KeepsSeats (yard_seat old) (yard_seat new)
+-- a yard is as before, but for the speaker
+pub record IsPassedOver {L : Type 0} (who : ℕ) (old new : Yard L) : Type 0 where
+  pub roll : yard_roll new ≡ spoken_by who (yard_roll old)
+  pub beside : IsSameBeside old new
+  pub seats : KeepsSeats (yard_seat old) (yard_seat new)
 
-  -- A turn of a caller made this event, or it was out of turn and made none. An event that was made is noted as the
-  -- caller's. Out of turn nothing changed but the speaker. In turn or not, the yard is the same beside its events, and
-  -- so are all seats.
-  pub record Makes (who : ℕ) (event : Event) (was_made : Bool) (old new : Yard L D F p d f) : Type 0 where
-    pub noted : OnTrue was_made (NotesBy who event (yard_roll old) (yard_roll new))
-    pub out : OnFalse was_made (IsPassedOver who old new)
-    pub same : IsSameBeside old new
-    pub seats : KeepsSeats (yard_seat old) (yard_seat new)
+-- A turn of a caller made this event, or it was out of turn and made none. An event that was made is noted as the
+-- caller's. Out of turn nothing changed but the speaker. In turn or not, the yard is the same beside its events, and so
+-- are all seats.
+pub record Makes {L : Type 0} (who : ℕ) (event : Event) (was_made : Bool) (old new : Yard L) : Type 0 where
+  pub noted : OnTrue was_made (NotesBy who event (yard_roll old) (yard_roll new))
+  pub out : OnFalse was_made (IsPassedOver who old new)
+  pub same : IsSameBeside old new
+  pub seats : KeepsSeats (yard_seat old) (yard_seat new)
 
-  -- the connection at a place has this serial, and is in a stage that passes a test
-  pub record IsAt (passes : Option Stage → Bool) (serial : ℕ) (yard : Yard L D F p d f) (place : ℕ) : Type 0 where
-    pub has_serial : number_of yard place ≡ serial
-    pub has_stage : passes (stage_of_place yard place) ≡ true
+-- the connection at a place has this serial, and is in a stage that passes a test
+pub record IsAt {L : Type 0} (passes : Option Stage → Bool) (serial : ℕ) (yard : Yard L) (place : ℕ) : Type 0 where
+  pub has_serial : number_of yard place ≡ serial
+  pub has_stage : passes (stage_of_place yard place) ≡ true
 
 -- the connection of a pass may be decided: it opened the rules, this is its peer, and the pass has what the yard
 -- decides without a file
-pub record MayBeDecided {L D F G : Type 0} {p : _} {l : _} {d : _} {q : _} {m : _} {f : _}
-    (yard : Yard L D F p l d) (pass : Pass L G q m f) (peer : Client) : Type 0 where
+pub record MayBeDecided {L F : Type 0} (yard : Yard L) (pass : Pass L F) (peer : Client) : Type 0 where
   pub is_opened : stage_of (pass_serial pass) (yard_server yard).connections ≡ Some stage.Opened
-  pub missing : pass_missing pass ≡ missing_by (yard_rules yard)
+  pub missing : pass_missing pass ≡ yard_missing yard
   pub its_peer : peer_of (pass_serial pass) (yard_server yard).connections ≡ Some peer
 
 -- what a turn tells if it made its event
@@ -98,13 +92,13 @@ told_then events None = events
 told_then events (Some event) = events ++ event ∷ []
 
 -- the event that a connection opened the rules
-abbrev pub opened_by : {L F : Type 0} {p : _} {l : _} {f : _} → (serial : ℕ) → Pass L F p l f → Event
+abbrev pub opened_by : {L F : Type 0} → (serial : ℕ) → Pass L F → Event
 opened_by serial pass = Opened serial (is_some (pass_file pass))
 
 -- the caller with this number opened the rules for a connection by a handle of the connection's own, which found this
 -- file, by the next event after this many; or it was out of turn, and no event was made
-abbrev pub OpensBy : {L F : Type 0} {p : _} {l : _} {f : _} → (serial : ℕ) → Option F → (who before : ℕ)
-    → Option (Pass L F p l f × Made) → (after : ℕ) → Type 0
+abbrev pub OpensBy : {L F : Type 0} → (serial : ℕ) → Option F → (who before : ℕ)
+    → Option (Pass L F × Made) → (after : ℕ) → Type 0
 OpensBy serial file who before answer after =
     IfSome answer (λ r. (pass_serial r.0 ≡ serial) × (pass_file r.0 ≡ file)
     × (receipt_of r.1 ≡ receipt_after before who (opened_by serial r.0)) × (after ≡ one_more before))

@@ -53,8 +53,8 @@ pub struct NewCallers<N: Callers> {
 impl<N: Callers> NewCallers<N> {
     ghost use Rattle.shared_site.specs.Callers.{caller_number, caller_share, new_count};
 
-    // So many callers, each with a part of this share.
-    pub(crate) fn of(share: Share<N>, count: u64) -> NewCallers<N>
+    /// So many callers, each with a part of this share.
+    pub fn of(share: Share<N>, count: u64) -> NewCallers<N>
         requires parts { share.parts ≡ count }
         requires idle { share.amount ≡ 0 }
         ensures { new_count result ≡ count }

@@ -1,11 +1,11 @@
 //! What a caller gets for an event that it asked for.
 ghost use Rattle.std.specs.Prelude.{◌≡◌};
 
-use crate::ground::{Ground, YardOf};
 use rule_lookup::{Decision, Peer};
 use server_events::Event;
-use server_yard::AdmitFault;
+use server_yard::{AdmitFault, Yard};
 use std::snapshot::Snapshot;
+use std::sync::ledger::Ledger;
 
 /// A snapshot of an event, without what it owns. It takes no memory, and copies nothing.
 #[derive(Drop)]
@@ -99,7 +99,7 @@ impl Refusal {
     }
 
     // That this yard has not let a client in.
-    pub(crate) fn of<G: Ground>(_yard: &YardOf<G>, _peer: &Peer, fault: AdmitFault) -> Refusal
+    pub(crate) fn of<L: Ledger>(_yard: &Yard<L>, _peer: &Peer, fault: AdmitFault) -> Refusal
         requires reason { Refuses fault _peer.now.ip (yard_books _yard.now).count (yard_server _yard.now) }
         ensures { refusal_fault result ≡ fault }
     {

@@ -7,20 +7,19 @@
 //! or takes memory of its own.
 //!
 //! `in_turn` says when a turn's event is made, and `makes` all that the turn then does, or leaves as it was. Such an
-//! event is a step over whatever directory other processes left (`server_yard::laws::noted_leads`).
+//! event is a step over whatever directory other processes left (`whole_yard::laws::noted_leads`).
 ghost use Rattle.child_jobs.specs.Runs.{place_of};
 ghost use Rattle.server_events.specs.ServerState.{is_admitted, is_allowed, is_started, stage_of};
-ghost use Rattle.server_events.specs.Worlds.{missing_by};
 ghost use Rattle.server_events.specs.declared.event.Event.{Event};
 ghost use Rattle.server_events.specs.declared.event.Stage.{Stage as StageOf};
 ghost use Rattle.server_yard.specs.Leavings.{leaving_event, may_leave};
-ghost use Rattle.server_yard.specs.Passes.{IsDecidedBy, finding_file, pass_missing, pass_serial};
+ghost use Rattle.server_yard.specs.Passes.{IsDecidedBy, pass_missing, pass_serial};
 ghost use Rattle.server_yard.specs.Rolls.{IsQuiet};
 ghost use Rattle.server_yard.specs.Seating.{GivesSeat, KeepsSerials};
-ghost use Rattle.server_yard.specs.Yards.{HasRun, IsRunOf, IsSameBeside, yard_books, yard_roll, yard_rules, yard_seat, yard_server};
-ghost use Rattle.server_yard.specs.declared.register.AdmitFault.TheVariants.{Full, FullForAddress, Spent};
+ghost use Rattle.server_yard.specs.Yards.{HasRun, IsRunOf, IsSameBeside, yard_books, yard_missing, yard_roll, yard_seat, yard_server};
+ghost use Rattle.server_yard.specs.declared.yard.AdmitFault.TheVariants.{Full, FullForAddress, Spent};
 ghost use Rattle.shared_site.specs.Callers.{CountsForIts, new_count};
-ghost use Rattle.shared_site.specs.Receipts.{AdmitsOrNot, CountsAtMostOne, MakesOrNot, Refuses, receipt_at, receipt_of, refused_as, shown_event};
+ghost use Rattle.shared_site.specs.Receipts.{AdmitsOrNot, MakesOrNot, Refuses, receipt_at, receipt_of, refused_as, shown_event};
 ghost use Rattle.shared_site.specs.Turns.{Answers, IsAt, IsLastOf, IsPassedOver, Makes, MayBeDecided, NotesAs, NotesBy, OpensBy, spoken_by, told_if_admitted, told_if_made, told_if_opened, told_then};
 ghost use Rattle.std.specs.Prelude.{◌≡◌, ◌+◌, ◌↔◌, ⊤, Bool, Err, IfErr, IfOk, IfSome, IsOk, IsTrue, List, None, OnErr, OnOk, Option, Some, ℕ, false, is_ok, is_some, length, true};
 ghost use Rattle.server_events.specs.declared.event.Event.TheVariants as event;
@@ -31,9 +30,9 @@ use crate::receipt::{EventSnapshot, Made, OutOfTurn, Refusal};
 use child_jobs::{Job, Place, Running};
 use rule_lookup::{Decision, Peer, Verdict};
 use server_events::{Event, Stage};
-use server_yard::{AdmitFault, Finding, Leaving, Pass};
+use server_yard::{AdmitFault, Leaving, Pass, Yard};
 use std::snapshot::Snapshot;
-use std::sync::ledger::{Blank, Book, Share};
+use std::sync::ledger::{Blank, Book, Ledger, Share};
 use std::sync::{Mutex, Wait};
 
 // A yard, and how many events it had since the site was made.
@@ -43,8 +42,8 @@ struct Guarded<G: Ground> {
     events: Book<G::Callers>,
     // the shares together are that number
     ghost counted: { G.Callers.before + events.total ≡ (yard_books yard).count },
-    // if the yard is a server's and had no event before, its events are a run
-    ghost ran: { G.is_servers ≡ true → G.Callers.before ≡ 0 → HasRun yard },
+    // if the yard had no event before, its events are a run
+    ghost ran: { G.Callers.before ≡ 0 → HasRun yard },
 }
 
 impl<G: Ground> Guarded<G> {
@@ -53,8 +52,8 @@ impl<G: Ground> Guarded<G> {
         requires may { T.may turn }
         ensures counted { CountsForIts (T.answers turn) result caller.old caller.new }
         // what turns tell, one after another, is a run
-        ensures runs_on { G.is_servers ≡ true → (events : List Event)
-            → IsRunOf events self.old.yard → IsRunOf (told_then events (T.tells turn result)) self.new.yard }
+        ensures runs_on { (events : List Event) → IsRunOf events self.old.yard
+            → IsRunOf (told_then events (T.tells turn result)) self.new.yard }
     {
         let before = self.yard.journal().events();
         let answer = turn.run(&mut self.yard, caller.number);
@@ -98,12 +97,12 @@ impl<G: Ground> Site<G> {
     }
 
     /// The yard, for the share of all callers: none of them makes an event any more. Its history has as many events as
-    /// when the site was made, and those of the share. If it is a server's and had no event before, there is a run that
-    /// led to it, of which `server_yard::laws::whole_run` speaks: what its turns told, one after another.
+    /// when the site was made, and those of the share. If it had no event before, there is a run that led to it, of which
+    /// `whole_yard::laws::whole_run` speaks: what its turns told, one after another.
     pub fn close(self, all: Share<G::Callers>) -> YardOf<G>
         requires all { all.parts ≡ G.Callers.parts }
         ensures history { (yard_books result).count ≡ G.Callers.before + all.amount }
-        ensures ran { G.is_servers ≡ true → G.Callers.before ≡ 0 → HasRun result }
+        ensures ran { G.Callers.before ≡ 0 → HasRun result }
     {
         let Site { guarded } = self;
         let Guarded { yard, mut events } = guarded.into_inner();
@@ -125,7 +124,7 @@ pub trait Turn<G: Ground> {
     /// have happened then.
     ghost answers: { Self → (who before : ℕ) → Self.Answer → (after : ℕ) → Type 0 };
 
-    /// What it tells in a server, by its answer.
+    /// Which event of a connection it made, by its answer.
     ghost tells: { Self → Self.Answer → Option Event };
 
     /// Runs the turn on a yard, for the caller with this number.
@@ -133,14 +132,13 @@ pub trait Turn<G: Ground> {
         requires may { may self }
         ensures answers { answers self caller
             (yard_books yard.old).count result (yard_books yard.new).count }
-        ensures counts { CountsAtMostOne (yard_books yard.old).count (yard_books yard.new).count }
-        ensures notes { G.is_servers ≡ true → NotesAs caller (tells self result)
-            (yard_roll yard.old) (yard_roll yard.new) };
+        ensures notes { NotesAs caller (tells self result) (yard_roll yard.old) (yard_roll yard.new) }
+        ensures same { IsSameBeside yard.old yard.new };
 }
 
 /// Evidence that a caller made a yard's last event, as which this event was just noted. There is no other way to
 /// evidence.
-pub fn made<G: Ground>(yard: &YardOf<G>, caller: u64, event: EventSnapshot) -> Made
+pub fn made<L: Ledger>(yard: &Yard<L>, caller: u64, event: EventSnapshot) -> Made
     requires last { IsLastOf caller (shown_event event) (yard_roll yard.now) }
     ensures its { receipt_of result ≡ receipt_at (yard_books yard.now).count caller (shown_event event) }
 {
@@ -176,8 +174,7 @@ impl<G: Ground> Turn<G> for Admit<'_> {
         caller: u64,
     ) -> Result<(u64, Place<G::Places>, Made), Refusal>
         ensures answers { Answers (AdmitsOrNot self.entry.peer.now) caller result yard.old yard.new }
-        ensures counts { CountsAtMostOne (yard_books yard.old).count (yard_books yard.new).count }
-        ensures notes { G.is_servers ≡ true → NotesAs caller
+        ensures notes { NotesAs caller
             (told_if_admitted self.entry.peer.now result)
             (yard_roll yard.old) (yard_roll yard.new) }
         ensures full { (refused_as result ≡ Some Full)
@@ -197,27 +194,27 @@ impl<G: Ground> Turn<G> for Admit<'_> {
         let Admit { peer } = self;
         yard.speaker(caller);
         if yard.journal().events() == u64::MAX {
-            return Err(Refusal::of::<G>(yard, peer, AdmitFault::Spent));
+            return Err(Refusal::of(yard, peer, AdmitFault::Spent));
         }
         match yard.admit(peer) {
             Ok((serial, place)) => {
                 let event = EventSnapshot::Admitted(Snapshot::of(&serial), Snapshot::of(peer));
-                Ok((serial, place, made::<G>(yard, caller, event)))
+                Ok((serial, place, made(yard, caller, event)))
             }
-            Err(fault) => Err(Refusal::of::<G>(yard, peer, fault)),
+            Err(fault) => Err(Refusal::of(yard, peer, fault)),
         }
     }
 }
 
-/// Notes that a connection opened the rules by a handle of its own, as `Yard::opened` does. It has to be let in, and
-/// must not have opened them before. Otherwise the answer is `None`: nothing changes but the speaker, and what it found
-/// is dropped.
+/// Notes that a connection opened the rules and found this, as `Yard::opened` does. It has to be let in, and
+/// must not have opened them before. Otherwise the answer is `None`: nothing changes but the speaker, and the file is
+/// dropped.
 #[derive(Drop)]
 pub struct Opened<G: Ground> {
     /// The connection's serial.
     pub serial: u64,
-    /// What the connection found.
-    pub finding: Finding<G::Places, G::File>,
+    /// The file that the connection found, or that there was none.
+    pub file: Option<G::File>,
 }
 
 impl<G: Ground> Turn<G> for Opened<G> {
@@ -225,30 +222,29 @@ impl<G: Ground> Turn<G> for Opened<G> {
 
     ghost may = { λ _. ⊤ };
 
-    ghost answers = { λ turn. OpensBy turn.serial (finding_file turn.finding) };
+    ghost answers = { λ turn. OpensBy turn.serial turn.file };
 
-    ghost tells = { λ turn. told_if_opened turn.serial (is_some (finding_file turn.finding)) };
+    ghost tells = { λ turn. told_if_opened turn.serial (is_some turn.file) };
 
     fn run(self, yard: &mut YardOf<G>, caller: u64) -> Option<(Pass<G::Places, G::File>, Made)>
-        ensures answers { Answers (OpensBy self.serial (finding_file self.finding)) caller result yard.old yard.new }
-        ensures counts { CountsAtMostOne (yard_books yard.old).count (yard_books yard.new).count }
-        ensures notes { G.is_servers ≡ true → NotesAs caller
-            (told_if_opened self.serial (is_some (finding_file self.finding)) result)
+        ensures answers { Answers (OpensBy self.serial self.file) caller result yard.old yard.new }
+        ensures notes { NotesAs caller
+            (told_if_opened self.serial (is_some self.file) result)
             (yard_roll yard.old) (yard_roll yard.new) }
         ensures in_turn { is_some result ≡ is_admitted (stage_of self.serial (yard_server yard.old).connections) }
-        ensures missing { IfSome result (λ r. pass_missing r.0 ≡ missing_by (yard_rules yard.old)) }
-        ensures makes { Makes caller (event.Opened self.serial (is_some (finding_file self.finding)))
+        ensures missing { IfSome result (λ r. pass_missing r.0 ≡ yard_missing yard.old) }
+        ensures makes { Makes caller (event.Opened self.serial (is_some self.file))
             (is_some result) yard.old yard.new }
     {
-        let Opened { serial, finding } = self;
+        let Opened { serial, file } = self;
         yard.speaker(caller);
         if !is_admitted(yard.stage(serial)) {
             return None;
         }
-        let pass = yard.opened(serial, finding);
+        let pass = yard.opened(serial, file);
         let there = pass.source().is_some();
         let event = EventSnapshot::of(Event::Opened { serial, there });
-        Some((pass, made::<G>(yard, caller, event)))
+        Some((pass, made(yard, caller, event)))
     }
 }
 
@@ -280,8 +276,7 @@ impl<G: Ground> Turn<G> for Decided<'_, G> {
         requires decides { IsDecidedBy G.File.honest G.File.sound G.File.bytes self.pass self.peer.now self.decision }
         ensures answers { Answers (MakesOrNot (event.Decided (pass_serial self.entry.pass) self.entry.decision))
             caller result yard.old yard.new }
-        ensures counts { CountsAtMostOne (yard_books yard.old).count (yard_books yard.new).count }
-        ensures notes { G.is_servers ≡ true → NotesAs caller
+        ensures notes { NotesAs caller
             (told_if_made (event.Decided (pass_serial self.entry.pass) self.entry.decision) result)
             (yard_roll yard.old) (yard_roll yard.new) }
         ensures in_turn { IsOk result ↔ MayBeDecided yard.old self.entry.pass self.entry.peer.now }
@@ -296,7 +291,7 @@ impl<G: Ground> Turn<G> for Decided<'_, G> {
             return Err(OutOfTurn { asked: event });
         }
         yard.decided(pass, peer, decision);
-        Ok(made::<G>(yard, caller, event))
+        Ok(made(yard, caller, event))
     }
 }
 
@@ -324,8 +319,7 @@ impl<G: Ground, C: Job> Turn<G> for Started<'_, G, C> {
 
     fn run(self, yard: &mut YardOf<G>, caller: u64) -> Result<Made, OutOfTurn>
         ensures answers { Answers (MakesOrNot (event.Started self.entry.serial)) caller result yard.old yard.new }
-        ensures counts { CountsAtMostOne (yard_books yard.old).count (yard_books yard.new).count }
-        ensures notes { G.is_servers ≡ true → NotesAs caller
+        ensures notes { NotesAs caller
             (told_if_made (event.Started self.entry.serial) result)
             (yard_roll yard.old) (yard_roll yard.new) }
         ensures in_turn { IsOk result ↔ IsAt is_allowed self.entry.serial yard.old (place_of self.entry.running.now) }
@@ -337,7 +331,7 @@ impl<G: Ground, C: Job> Turn<G> for Started<'_, G, C> {
             return Err(OutOfTurn { asked: event });
         }
         yard.started(running);
-        Ok(made::<G>(yard, caller, event))
+        Ok(made(yard, caller, event))
     }
 }
 
@@ -367,8 +361,7 @@ impl<G: Ground> Turn<G> for Left<G> {
     fn run(self, yard: &mut YardOf<G>, caller: u64) -> Result<Made, OutOfTurn>
         ensures answers { Answers (MakesOrNot (leaving_event self.leaving self.serial))
             caller result yard.old yard.new }
-        ensures counts { CountsAtMostOne (yard_books yard.old).count (yard_books yard.new).count }
-        ensures notes { G.is_servers ≡ true → NotesAs caller
+        ensures notes { NotesAs caller
             (told_if_made (leaving_event self.leaving self.serial) result)
             (yard_roll yard.old) (yard_roll yard.new) }
         ensures in_turn { IsOk result ↔ IsAt (may_leave self.leaving) self.serial yard.old self.place }
@@ -386,7 +379,7 @@ impl<G: Ground> Turn<G> for Left<G> {
             return Err(OutOfTurn { asked: event });
         }
         yard.left(place, leaving);
-        Ok(made::<G>(yard, caller, event))
+        Ok(made(yard, caller, event))
     }
 }
 
@@ -414,8 +407,7 @@ impl<G: Ground, C: Job> Turn<G> for Retired<G, C> {
 
     fn run(self, yard: &mut YardOf<G>, caller: u64) -> Result<Made, OutOfTurn>
         ensures answers { Answers (MakesOrNot (event.Retired self.serial)) caller result yard.old yard.new }
-        ensures counts { CountsAtMostOne (yard_books yard.old).count (yard_books yard.new).count }
-        ensures notes { G.is_servers ≡ true → NotesAs caller
+        ensures notes { NotesAs caller
             (told_if_made (event.Retired self.serial) result)
             (yard_roll yard.old) (yard_roll yard.new) }
         ensures in_turn { IsOk result ↔ IsAt is_started self.serial yard.old (place_of self.running) }
@@ -428,7 +420,7 @@ impl<G: Ground, C: Job> Turn<G> for Retired<G, C> {
             return Err(OutOfTurn { asked: event });
         }
         yard.retired(running);
-        Ok(made::<G>(yard, caller, event))
+        Ok(made(yard, caller, event))
     }
 }
 

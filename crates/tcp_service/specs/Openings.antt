@@ -22,7 +22,7 @@ pub record Opening : Type 0 where
   pub missing : WhenMissing
 
 -- what a pass has
-abbrev pub opening_of : {L F : Type 0} {p : _} {l : _} {f : _} → (F → List ℕ) → Pass L F p l f → Opening
+abbrev pub opening_of : {L F : Type 0} → (F → List ℕ) → Pass L F → Opening
 opening_of bytes pass = record { bytes = pass_bytes bytes pass; missing = pass_missing pass }
 
 -- a new handle of the rules was opened for the connection with this serial, and this stood there

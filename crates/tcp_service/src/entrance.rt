@@ -1,7 +1,7 @@
 //! How a connection that was accepted is let in: named and counted.
 ghost use Rattle.std.specs.Prelude.{◌≡◌, ⊤, IfSome};
 ghost use Rattle.shared_site.specs.Callers.{caller_share};
-ghost use Rattle.server_yard.specs.declared.register.AdmitFault.TheVariants.{Spent};
+ghost use Rattle.server_yard.specs.declared.yard.AdmitFault.TheVariants.{Spent};
 ghost use Rattle.shared_site.specs.Receipts.{AdmitsOrNot, refusal_fault};
 ghost use Rattle.shared_site.specs.Turns.{told_if_admitted};
 ghost use Rattle.tcp_connections.specs.Admissions.{LetsIn};

@@ -1,12 +1,11 @@
 //! What a server stands on, and how its connections open the rules, each by a handle of its own.
 ghost use Rattle.std.specs.Prelude.{ℕ, List, Option, IfOk};
 ghost use Rattle.std.specs.Option.{option_map};
-ghost use Rattle.server_yard.specs.Passes.{finding_file};
+ghost use Rattle.rule_lookup.specs.declared.decision.WhenMissing.{WhenMissing};
 
 use child_jobs::Job;
 use dir_calls::{DirFault, RulesFile};
 use rule_lookup::Peer;
-use server_yard::{Assumptions, Finding};
 use shared_site::Ground;
 use std::alloc::{AllocError, Global};
 use std::io::Write;
@@ -20,10 +19,10 @@ pub trait ServiceGround: Ground {
     type Runtime: Wait;
 
     /// What one connection opens the rules by.
-    type Handle: RulesHandle<Self::Places, Self::File> + Drop;
+    type Handle: RulesHandle<Self::File> + Drop;
 
     /// Where the rules stand that each connection opens for itself.
-    type Rules: Rules<Self::Places, Self::File, Handle = Self::Handle>;
+    type Rules: Rules<Self::File, Handle = Self::Handle>;
 
     /// What takes the lines of the log.
     type Lines: Write;
@@ -47,12 +46,12 @@ pub trait Host: ServiceGround {
 }
 
 /// Where the rules stand that each connection opens for itself.
-pub trait Rules<L: Assumptions, F: RulesFile + Drop> {
+pub trait Rules<F: RulesFile + Drop> {
     /// What one connection opens them by.
-    type Handle: RulesHandle<L, F> + Drop;
+    type Handle: RulesHandle<F> + Drop;
 
-    /// The name of the rules file in its folder; none if there are no rules.
-    ghost named: { Self → Option (List ℕ) };
+    /// What is decided where no rules file stands.
+    ghost missing: { Self → WhenMissing };
 
     /// Whether a handle is a new one of these rules.
     ghost gives: { Self → Self.Handle → Type 0 };
@@ -77,7 +76,7 @@ pub trait Rules<L: Assumptions, F: RulesFile + Drop> {
 }
 
 /// What one connection opens the rules by. Nobody else waits meanwhile.
-pub trait RulesHandle<L: Assumptions, F: RulesFile + Drop> {
+pub trait RulesHandle<F: RulesFile + Drop> {
     /// Between these two states it was opened for the connection with this serial number, and this stood under the
     /// rules name: a file of these bytes, or nothing.
     ghost opened: { Self → (serial : ℕ) → Option (List ℕ) → Self → Type 0 };
@@ -86,7 +85,6 @@ pub trait RulesHandle<L: Assumptions, F: RulesFile + Drop> {
     ///
     /// # Errors
     /// `OutOfMemory`; any other is a call of the system that failed.
-    fn open(&mut self, alloc: Global, serial: u64) -> Result<Finding<L, F>, DirFault>
-        ensures found { IfOk result (λ finding.
-            opened self.old serial (option_map F.bytes (finding_file finding)) self.new) };
+    fn open(&mut self, alloc: Global, serial: u64) -> Result<Option<F>, DirFault>
+        ensures found { IfOk result (λ file. opened self.old serial (option_map F.bytes file) self.new) };
 }

@@ -68,7 +68,7 @@ impl<G: ServiceGround> Context<'_, G> {
         ensures given_up { IfErr result (GivesUp (λ _. ⊥) []) }
     {
         match handle.open(self.alloc, serial) {
-            Ok(finding) => self.opened(greeted, serial, finding),
+            Ok(file) => self.opened(greeted, serial, file),
             Err(fault) => Err(cause_of_open(fault)),
         }
     }

@@ -23,7 +23,6 @@ where
     H::Places: Send + Sync,
     H::Callers: Send + Sync,
     H::File: Send,
-    H::Folder: Send,
     H::Handle: Send,
     H::Rules: Sync,
     H::Lines: Send,

@@ -3,7 +3,7 @@
 ghost use Rattle.std.specs.Prelude.{◌≡◌, ◌≢◌, IfErr, IfOk, OnErr};
 ghost use Rattle.child_jobs.specs.declared.outcome.DropCause.TheVariants.{Denied, Directory};
 ghost use Rattle.server_events.specs.declared.event.Event.TheVariants as event;
-ghost use Rattle.server_yard.specs.Passes.{finding_file, pass_file, pass_serial};
+ghost use Rattle.server_yard.specs.Passes.{pass_file, pass_serial};
 ghost use Rattle.shared_site.specs.Receipts.{made_event};
 ghost use Rattle.tcp_service.specs.Lives.{IsAnswer, asked};
 ghost use Rattle.tcp_service.specs.Openings.{Decides, opening_of};
@@ -15,7 +15,7 @@ use crate::server::Context;
 use child_jobs::{DropCause, Exit, Job, Local, NotStarted, Place, Running};
 use rule_lookup::{Decision, Peer};
 use server_log::{Cause, Log, Told};
-use server_yard::{Finding, Leaving, Pass};
+use server_yard::{Leaving, Pass};
 use shared_site::site::{Decided, Left, Opened, Retired, Started};
 use shared_site::{Made, OutOfTurn, Turn, YardOf};
 use std::snapshot::Snapshot;
@@ -73,7 +73,7 @@ impl<G: ServiceGround> Context<'_, G> {
         })
     }
 
-    /// The connection with this serial number has found this, after its client was greeted.
+    /// The connection with this serial number has found this file, or none, after its client was greeted.
     ///
     /// # Errors
     /// It may not open the rules now, which counts as a fault of the directory.
@@ -81,15 +81,15 @@ impl<G: ServiceGround> Context<'_, G> {
         &self,
         greeted: Greeted<'_>,
         serial: u64,
-        finding: Finding<G::Places, G::File>,
+        file: Option<G::File>,
     ) -> Result<Pass<G::Places, G::File>, DropCause>
         requires greeted { greeted.banner.now ≡ self.now.plan.now.banner }
         ensures its { IfOk result (λ pass. pass_serial pass ≡ serial) }
-        ensures file { IfOk result (λ pass. pass_file pass ≡ finding_file finding) }
+        ensures file { IfOk result (λ pass. pass_file pass ≡ file) }
         ensures cause { IfErr result (λ why. why ≡ Directory) }
     {
         drop(greeted);
-        match self.turn(Opened::<G> { serial, finding }) {
+        match self.turn(Opened::<G> { serial, file }) {
             Some((pass, made)) => {
                 drop(made);
                 Ok(pass)

@@ -1,23 +1,26 @@
 //! Calls of a site that have to succeed. A caller keeps the receipt of each. Where one does not succeed, that is noted:
 //! the whole run is wrong then, and a place that is held may be stranded.
-ghost use Rattle.std.specs.Prelude.{◌≡◌, false, IfSome};
+ghost use Rattle.std.specs.Prelude.{IfSome};
 ghost use Rattle.server_yard.specs.Passes.{IsDecidedBy};
 
 use crate::children::{Idle, end_child, start_child};
 use crate::receipts::Receipts;
+use crate::sites::{InMemory, MemSite};
 use child_jobs::{DropCause, Place};
 use dir_calls::RulesFile;
+use memory_dirs::MemFile;
 use rule_lookup::{Decision, Peer, Verdict, decide};
 use rules_install::Install;
 use server_events::Event;
-use server_yard::{AdmitFault, Assumptions, Leaving, Pass};
+use server_yard::{AdmitFault, Leaving, Pass};
 use shared_site::site::{Admit, Decided, Left, Started};
-use shared_site::{Caller, Callers, Ground, Site};
+use shared_site::{Caller, Callers};
 use std::alloc::Global;
 use std::sync::Wait;
+use std::sync::ledger::Ledger;
 use std::thread;
 use std::time::{Clock, Duration};
-use whole_yard::{InstallBegin, InstallStep, Open};
+use whole_yard::{Assumptions, InstallBegin, InstallStep, OfConnection, Open};
 
 /// More steps than an installation of a short text takes.
 const STEPS: u64 = 64;
@@ -32,18 +35,17 @@ pub(crate) struct Worker<N: Callers> {
     pub(crate) receipts: Receipts,
 }
 
-/// A site that installs rules, and what calls of it need beside.
+/// A site, and what calls of it need beside.
 #[derive(Drop)]
-pub(crate) struct At<'a, G: Ground, R> {
+pub(crate) struct At<'a, L: Assumptions, N: Callers, R> {
     pub(crate) rt: &'a R,
     pub(crate) alloc: Global,
-    pub(crate) site: &'a Site<G>,
-    pub(crate) ghost installs: { G.is_servers ≡ false },
+    pub(crate) site: &'a MemSite<L, N>,
 }
 
-impl<G: Ground, R: Wait + Clock> At<'_, G, R> {
+impl<L: Assumptions, N: Callers, R: Wait + Clock> At<'_, L, N, R> {
     /// Serves a connection from its admission to its end.
-    pub(crate) fn serve(&self, worker: &mut Worker<G::Callers>, peer: &Peer) {
+    pub(crate) fn serve(&self, worker: &mut Worker<N>, peer: &Peer) {
         let Some((serial, place)) = self.let_in(worker, peer) else {
             return worker.receipts.fail();
         };
@@ -57,13 +59,12 @@ impl<G: Ground, R: Wait + Clock> At<'_, G, R> {
     }
 
     /// Lets a connection in once there is room for it.
-    fn let_in(
-        &self,
-        worker: &mut Worker<G::Callers>,
-        peer: &Peer,
-    ) -> Option<(u64, Place<G::Places>)> {
+    fn let_in(&self, worker: &mut Worker<N>, peer: &Peer) -> Option<(u64, Place<L>)> {
         for _ in 0..PATIENCE {
-            match self.site.turn(self.rt, &mut worker.caller, Admit { peer }) {
+            match self
+                .site
+                .turn(self.rt, &mut worker.caller, OfConnection(Admit { peer }))
+            {
                 Ok((serial, place, made)) => {
                     worker.receipts.keep_admitted(made, serial, peer);
                     return Some((serial, place));
@@ -80,12 +81,7 @@ impl<G: Ground, R: Wait + Clock> At<'_, G, R> {
     }
 
     /// Opens the rules for a connection, and answers how they decide it.
-    fn decided(
-        &self,
-        worker: &mut Worker<G::Callers>,
-        serial: u64,
-        peer: &Peer,
-    ) -> Option<Verdict> {
+    fn decided(&self, worker: &mut Worker<N>, serial: u64, peer: &Peer) -> Option<Verdict> {
         let open = Open {
             alloc: self.alloc,
             serial,
@@ -106,8 +102,8 @@ impl<G: Ground, R: Wait + Clock> At<'_, G, R> {
     /// Decides a connection by its pass.
     fn decided_by(
         &self,
-        worker: &mut Worker<G::Callers>,
-        pass: Pass<G::Places, G::File>,
+        worker: &mut Worker<N>,
+        pass: Pass<L, MemFile>,
         peer: &Peer,
     ) -> Option<Verdict> {
         let serial = pass.serial();
@@ -118,26 +114,30 @@ impl<G: Ground, R: Wait + Clock> At<'_, G, R> {
         };
         let verdict = decision.verdict;
         let kept = decision.copy(self.alloc);
-        let turn = Decided::<G> {
+        let turn = Decided::<InMemory<L>> {
             pass,
             peer,
             decision,
         };
-        let answer = self.site.turn(self.rt, &mut worker.caller, turn);
+        let answer = self
+            .site
+            .turn(self.rt, &mut worker.caller, OfConnection(turn));
         worker.receipts.keep_decided(answer, serial, kept);
         Some(verdict)
     }
 
     /// Runs a child of a connection that was allowed, from its start to its end.
-    fn run_child(&self, worker: &mut Worker<G::Callers>, serial: u64, place: Place<G::Places>) {
+    fn run_child(&self, worker: &mut Worker<N>, serial: u64, place: Place<L>) {
         let Some(running) = start_child(self.alloc, place) else {
             return worker.receipts.fail();
         };
-        let started = Started::<G, Idle> {
+        let started = Started::<InMemory<L>, Idle> {
             serial,
             running: &running,
         };
-        let answer = self.site.turn(self.rt, &mut worker.caller, started);
+        let answer = self
+            .site
+            .turn(self.rt, &mut worker.caller, OfConnection(started));
         worker.receipts.keep_made(answer, Event::Started { serial });
         match end_child(running) {
             Some((place, status)) => self.leave(worker, serial, place, Leaving::Ended(status)),
@@ -146,24 +146,20 @@ impl<G: Ground, R: Wait + Clock> At<'_, G, R> {
     }
 
     /// Notes that a connection has gone so.
-    fn leave(
-        &self,
-        worker: &mut Worker<G::Callers>,
-        serial: u64,
-        place: Place<G::Places>,
-        leaving: Leaving,
-    ) {
-        let left = Left::<G> {
+    fn leave(&self, worker: &mut Worker<N>, serial: u64, place: Place<L>, leaving: Leaving) {
+        let left = Left::<InMemory<L>> {
             serial,
             place,
             leaving,
         };
-        let answer = self.site.turn(self.rt, &mut worker.caller, left);
+        let answer = self
+            .site
+            .turn(self.rt, &mut worker.caller, OfConnection(left));
         worker.receipts.keep_made(answer, leaving.event(serial));
     }
 
     /// Steps an installation until it is done, or another one has taken its place.
-    pub(crate) fn install(&self, worker: &mut Worker<G::Callers>, install: Install) {
+    pub(crate) fn install(&self, worker: &mut Worker<N>, install: Install) {
         let begin = InstallBegin {
             alloc: self.alloc,
             install,
@@ -175,7 +171,7 @@ impl<G: Ground, R: Wait + Clock> At<'_, G, R> {
     }
 
     /// Makes the steps of an installation that has begun.
-    fn install_on(&self, worker: &mut Worker<G::Callers>, number: u64) {
+    fn install_on(&self, worker: &mut Worker<N>, number: u64) {
         for _ in 0..STEPS {
             let step = InstallStep {
                 alloc: self.alloc,
@@ -191,7 +187,7 @@ impl<G: Ground, R: Wait + Clock> At<'_, G, R> {
 }
 
 /// The decision for a peer by the file that a pass has.
-fn decide_by<L: Assumptions, F: RulesFile + Drop>(
+fn decide_by<L: Ledger, F: RulesFile + Drop>(
     alloc: Global,
     pass: &Pass<L, F>,
     peer: &Peer,

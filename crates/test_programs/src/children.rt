@@ -7,9 +7,9 @@ use child_jobs::{
     Environment, Exit, Job, Launcher, NotStarted, Place, Program, Running, Status, WaitFault,
     finish, start,
 };
-use server_yard::Assumptions;
 use std::alloc::Global;
 use std::snapshot::Snapshot;
+use std::sync::ledger::Ledger;
 
 /// A job that has ended as soon as it is waited for.
 pub(crate) struct Idle {
@@ -73,10 +73,7 @@ impl Launcher for Starts {
 }
 
 /// Starts such a child at a place.
-pub(crate) fn start_child<L: Assumptions>(
-    alloc: Global,
-    place: Place<L>,
-) -> Option<Running<L, Idle>>
+pub(crate) fn start_child<L: Ledger>(alloc: Global, place: Place<L>) -> Option<Running<L, Idle>>
     ensures { IfSome result (λ running. place_of running ≡ place) }
 {
     let program = Program::new(String::new(alloc), Vec::new(alloc));
@@ -94,7 +91,7 @@ pub(crate) fn start_child<L: Assumptions>(
 }
 
 /// Waits until such a child has ended.
-pub(crate) fn end_child<L: Assumptions>(running: Running<L, Idle>) -> Option<(Place<L>, Status)> {
+pub(crate) fn end_child<L: Ledger>(running: Running<L, Idle>) -> Option<(Place<L>, Status)> {
     match finish(running) {
         Ok((place, exit)) => Some((place, exit.status)),
         Err((running, _)) => {

@@ -4,7 +4,7 @@ ghost use Rattle.shared_site.specs.Callers.{new_count};
 
 use crate::calls::{At, Worker};
 use crate::receipts::Receipts;
-use crate::sites::{InMemory, close, new_site};
+use crate::sites::{close, new_site};
 use dir_calls::Name;
 use memory_dirs::MemDir;
 use rule_lines::Limits;
@@ -12,8 +12,7 @@ use rule_lookup::{Peer, WhenMissing};
 use rules_install::whole::prepare;
 use rules_install::{FileNames, Install};
 use server_events::Report;
-use server_yard::Assumptions;
-use shared_site::{Caller, Callers, Ground, NewCallers};
+use shared_site::{Caller, Callers, NewCallers};
 use std::alloc::{AllocError, Global};
 use std::marker::Brand;
 use std::sync::Wait;
@@ -21,7 +20,7 @@ use std::sync::ledger::{Blank, Share};
 use std::thread;
 use std::thread::Threads;
 use std::time::Clock;
-use whole_yard::BackCallers;
+use whole_yard::{Assumptions, BackCallers};
 
 const CALLERS: u64 = 8;
 
@@ -39,8 +38,8 @@ trait Work<C, W> {
     fn work(&self, caller: C) -> W;
 }
 
-impl<G: Ground, R: Wait + Clock> Work<Caller<G::Callers>, Worker<G::Callers>> for At<'_, G, R> {
-    fn work(&self, caller: Caller<G::Callers>) -> Worker<G::Callers> {
+impl<L: Assumptions, N: Callers, R: Wait + Clock> Work<Caller<N>, Worker<N>> for At<'_, L, N, R> {
+    fn work(&self, caller: Caller<N>) -> Worker<N> {
         let peer = peer_for(self.alloc, caller.number());
         let mut worker = Worker {
             caller,
@@ -58,9 +57,9 @@ impl<G: Ground, R: Wait + Clock> Work<Caller<G::Callers>, Worker<G::Callers>> fo
 }
 
 // Makes all connections and installations of a caller, up to a call that does not succeed.
-fn serve_all<G: Ground, R: Wait + Clock>(
-    at: &At<'_, G, R>,
-    worker: &mut Worker<G::Callers>,
+fn serve_all<L: Assumptions, N: Callers, R: Wait + Clock>(
+    at: &At<'_, L, N, R>,
+    worker: &mut Worker<N>,
     peer: &Peer,
 ) {
     for k in 0..CONNECTIONS {
@@ -174,37 +173,6 @@ fn run_all<N: Callers + Send, W: Work<Caller<N>, Worker<N>> + Sync, R: Threads +
     gather(alloc, new.nobody(), workers)
 }
 
-// Runs eight callers of one site over a directory.
-fn eight_on<G: Ground + Send + Sync, R: Threads + Wait + Clock + Sync>(
-    rt: &R,
-    alloc: Global,
-    places: Blank,
-    parts: Blank,
-    dir: G::Folder,
-    rules: Option<(Name, WhenMissing)>,
-) -> Option<Report>
-where
-    G::Places: Send + Sync,
-    G::Callers: Send + Sync,
-    G::File: Send,
-    G::Folder: Send,
-    requires installs { G.is_servers ≡ false }
-    requires places { (places.name ≡ G.Places.name) × (places.parts ≡ G.Places.parts) × (places.parts ≡ LIMIT) }
-    requires met { G.Places.met ≡ false }
-    requires parts { (parts.name ≡ G.Callers.name) × (parts.parts ≡ G.Callers.parts) × (parts.parts ≡ CALLERS) }
-    requires callers { G.Callers.before ≡ 0 }
-{
-    let (site, new) = new_site::<G>(alloc, places, parts, dir, rules, LIMIT, CALLERS)?;
-    let at = At {
-        rt,
-        alloc,
-        site: &site,
-    };
-    let (callers, receipts) = run_all(rt, alloc, &at, new);
-    drop(at);
-    close(alloc, site, callers, receipts, LIMIT)
-}
-
 // Runs eight callers of one site over a directory in memory.
 fn eight<
     L: Assumptions + Send + Sync,
@@ -218,7 +186,16 @@ fn eight<
 {
     let alloc = rt.alloc();
     let rules = Some((name(alloc, b"rules")?, WhenMissing::Deny));
-    eight_on::<InMemory<L, N>, R>(rt, alloc, places, parts, MemDir::new(alloc), rules)
+    let dir = MemDir::new(alloc);
+    let (site, new) = new_site::<L, N>(alloc, places, parts, dir, rules, LIMIT, CALLERS)?;
+    let at = At {
+        rt,
+        alloc,
+        site: &site,
+    };
+    let (callers, receipts) = run_all(rt, alloc, &at, new);
+    drop(at);
+    close(alloc, site, callers, receipts, LIMIT)
 }
 
 /// Runs eight callers of one site in threads of their own. It answers what the yard reports then: nothing if a call did

@@ -1,69 +1,58 @@
 //! Sites over a directory in memory, from the start to the audit.
-ghost use Rattle.std.specs.Prelude.{◌≡◌, false, IfSome, IsTrue, OnOk};
+ghost use Rattle.std.specs.Prelude.{◌≡◌, false, IfSome, OnOk};
 ghost use Rattle.server_events.specs.JournalParts.{books_of_journal};
-ghost use Rattle.server_yard.specs.Kept.{rules_of};
-ghost use Rattle.server_yard.specs.Standing.{BeginsWell};
 ghost use Rattle.shared_site.specs.Callers.{new_count};
 ghost use Rattle.whole_yard.specs.Closings.{IsWhole};
 
 use crate::receipts::Receipts;
 use dir_calls::Name;
-use memory_dirs::{MemDir, MemFile};
+use memory_dirs::MemDir;
 use rule_lookup::WhenMissing;
 use server_events::{Event, Journal, Report, replay};
-use server_yard::{Assumptions, Yard};
-use shared_site::{Callers, Ground, NewCallers, Receipt, Site};
+use shared_site::{Callers, NewCallers, Receipt};
 use std::alloc::{AllocError, Global};
-use std::marker::PhantomData;
 use std::sync::ledger::Blank;
-use whole_yard::{BackCallers, NotWhole, close_and_audit};
+use whole_yard::{
+    Assumptions, BackCallers, ConnectionsOver, NotWhole, WholeSite, WholeYard, close_and_audit,
+};
 
-/// What these sites stand on: a directory in memory, with these ledgers of places and of callers.
-pub(crate) struct InMemory<L, N>(PhantomData<(L, N)>);
+/// A site over a directory in memory.
+pub(crate) type MemSite<L, N> = WholeSite<L, N, MemDir>;
 
-impl<L: Assumptions, N: Callers> Ground for InMemory<L, N> {
-    type Places = L;
-
-    type Callers = N;
-
-    type File = MemFile;
-
-    type Folder = MemDir;
-
-    ghost is_servers = { false };
-}
+/// What the turns of its connections stand on.
+pub(crate) type InMemory<L> = ConnectionsOver<L, MemDir>;
 
 /// A site over a directory, and so many callers.
-pub(crate) fn new_site<G: Ground>(
+pub(crate) fn new_site<L: Assumptions, N: Callers>(
     alloc: Global,
     places: Blank,
     parts: Blank,
-    dir: G::Folder,
+    dir: MemDir,
     rules: Option<(Name, WhenMissing)>,
     limit: u64,
     callers: u64,
-) -> Option<(Site<G>, NewCallers<G::Callers>)>
-    requires places { (places.name ≡ G.Places.name) × (places.parts ≡ G.Places.parts) × (places.parts ≡ limit) }
-    requires begins { IsTrue G.Places.met → BeginsWell G.Folder.honest (G.Folder.state dir) (rules_of rules) }
-    requires parts { (parts.name ≡ G.Callers.name) × (parts.parts ≡ G.Callers.parts) × (parts.parts ≡ callers) }
-    requires callers { G.Callers.before ≡ 0 }
+) -> Option<(MemSite<L, N>, NewCallers<N>)>
+    requires places { (places.name ≡ L.name) × (places.parts ≡ L.parts) × (places.parts ≡ limit) }
+    requires met { L.met ≡ false }
+    requires parts { (parts.name ≡ N.name) × (parts.parts ≡ N.parts) × (parts.parts ≡ callers) }
+    requires callers { N.before ≡ 0 }
     ensures { IfSome result (λ made. new_count made.1 ≡ callers) }
 {
     let journal = Journal::storing(alloc);
-    let yard = Yard::new(alloc, places, dir, rules, limit, journal).ok()?;
-    Some(Site::new(parts, yard, callers))
+    let yard = WholeYard::new(alloc, places, dir, rules, limit, limit, journal).ok()?;
+    Some(WholeSite::new(parts, yard, callers))
 }
 
 /// What the yard of a site reports once its callers are all back. Their receipts have to be its whole history, and that
 /// has to come to this report.
-pub(crate) fn close<G: Ground>(
+pub(crate) fn close<L: Assumptions, N: Callers>(
     alloc: Global,
-    site: Site<G>,
-    callers: BackCallers<G::Callers>,
+    site: MemSite<L, N>,
+    callers: BackCallers<N>,
     receipts: Receipts,
     limit: u64,
 ) -> Option<Report>
-    requires all { callers.all ≡ G.Callers.parts }
+    requires all { callers.all ≡ N.parts }
 {
     match close_and_audit(site, callers, &receipts.list) {
         Ok((yard, audited)) => {

@@ -25,7 +25,6 @@ pub(crate) struct Last {
 // How the tool ends, by how its server did, what its yard was then, and the system's last fault of accepting. The
 // events of its site were a run.
 pub(crate) fn end_of<H: Host>(served: Closed<H>) -> Result<Finished, ServerFailure>
-    requires servers { H.is_servers ≡ true }
     requires new { H.Callers.before ≡ 0 }
     ensures ran { HasRun served.yard }
     ensures finished { OnOk result (told_of served.last served.end served.faults.last ≡ Ok tt) }

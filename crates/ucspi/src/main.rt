@@ -14,11 +14,10 @@
 //!
 //! At the end of a server both callers are back. `close` compares the connections alive with the retired ones, and
 //! `end_of` reports a difference as `lost connection`. The events of its site are a run, of which
-//! `server_yard::laws::whole_run` speaks.
+//! `whole_yard::laws::whole_run` speaks.
 #![tactic(auto)]
 
 mod ends;
-mod no_folder;
 mod rules;
 mod serving;
 mod standard;

@@ -2,8 +2,8 @@
 //!
 //! This stands in the program's crate because whoever names `Workers::serve_through` loads all proofs behind it.
 ghost use Rattle.std.specs.Option.{ForSome};
-ghost use Rattle.std.specs.Prelude.{◌≡◌, ◌+◌, ◌≤◌, Some, true};
-ghost use Rattle.server_yard.specs.Yards.{HasRun, name_of, yard_books, yard_rules, yard_server};
+ghost use Rattle.std.specs.Prelude.{◌≡◌, ◌+◌, ◌≤◌, Some};
+ghost use Rattle.server_yard.specs.Yards.{HasRun, yard_books, yard_missing, yard_server};
 ghost use Rattle.shared_site.specs.Callers.{caller_share};
 ghost use Rattle.tcp_connections.specs.Admissions.{FailedToAccept, suffices};
 ghost use Rattle.tcp_connections.specs.declared.serving.ServeEnd.TheVariants.{AcceptFaults, Count};
@@ -55,7 +55,7 @@ pub(crate) struct Closed<H: Host> {
     pub ghost most: { ForSome H.Callers.admissions (λ most. caller_share admitter.value ≤ most) },
     pub ghost by_faults: { end ≡ AcceptFaults → ∥ FailedToAccept (suffices supply) faults.count ∥₁ },
     // its events are a run of a server
-    pub ghost ran: { H.is_servers ≡ true → H.Callers.before ≡ 0 → HasRun yard },
+    pub ghost ran: { H.Callers.before ≡ 0 → HasRun yard },
 }
 
 /// Serves connections at a site over this yard until it comes to an end, waits until all that were let in are over, and
@@ -63,7 +63,8 @@ pub(crate) struct Closed<H: Host> {
 ///
 /// Of the two callers of the site, with a part each of `parts`, one lets connections in and makes no other events; the
 /// other makes all others. `plan` is what each connection is served by. `starter` is asked for nothing but the plan's
-/// program, with the variables of a decision to allow. Each connection opens `rules` for itself, which are the yard's.
+/// program, with the variables of a decision to allow. Each connection opens `rules` for itself, and the
+/// yard decides as they say where no file stands.
 /// Once no more connections are let in, the acceptor is dropped.
 ///
 /// # Errors
@@ -86,7 +87,6 @@ where
     H::Places: Send + Sync,
     H::Callers: Send + Sync,
     H::File: Send,
-    H::Folder: Send,
     H::Handle: Send,
     H::Rules: Sync,
     H::Lines: Send,
@@ -95,10 +95,9 @@ where
     H::Job: Send,
     A: Acceptor<Came = Accepted<H::Connection>> + Send + Drop,
     requires parts { (parts.name ≡ H.Callers.name) × (parts.parts ≡ H.Callers.parts) × (parts.parts ≡ CALLERS) }
-    requires servers { H.is_servers ≡ true }
     requires new { (H.Callers.before ≡ 0) × ((yard_books yard).count ≡ 0) }
     requires count { H.Callers.admissions ≡ service.now.limits.count }
-    requires named { H.Rules.named rules.now ≡ name_of (yard_rules yard) }
+    requires missing { yard_missing yard ≡ H.Rules.missing rules.now }
     requires may { MayStartEach (IsFoundFor (H.Rules.gives rules.now) H.Handle.opened)
         H.File.honest H.File.sound plan.now (H.Starter.may starter.now) }
 {

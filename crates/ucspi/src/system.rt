@@ -1,14 +1,12 @@
 //! What the tool has of the system, and what its server stands on.
-ghost use Rattle.std.specs.Prelude.{◌≡◌, ⊤, ℕ, List, true, IfOk, IfErr};
+ghost use Rattle.std.specs.Prelude.{◌≡◌, ⊤, ℕ, List, IfOk, IfErr};
 ghost use Rattle.server_parts.specs.declared.fault.ServerFault.TheVariants.{CannotListen};
 
-use crate::no_folder::NoFolder;
 use crate::rules::{FolderHandle, FolderRules};
 use byte_streams::Patient;
 use dir_disk::{NoWait, SystemDisk};
 use server_parts::opening::listen;
 use server_parts::{RulesOnDisk, ServerFailure};
-use server_yard::Assumptions;
 use shared_site::{Callers, Ground};
 use std::fs::{File, Files};
 use std::io::{Read, Write};
@@ -16,6 +14,7 @@ use std::marker::PhantomData;
 use std::net::{Net, OpenListener, TcpStream};
 use std::process::{ChildStdin, OpenProcess, Processes};
 use std::rt::Env;
+use std::sync::ledger::Ledger;
 use std::sync::{Mutex, Wait};
 use std::thread::Threads;
 use std::time::Clock;
@@ -114,31 +113,27 @@ where
 /// What a server stands on, over these ledgers of places and of callers.
 pub(crate) struct OnSystem<'a, P: System, L, N>(PhantomData<(&'a P::Runtime, L, N)>);
 
-impl<'a, P: System, L: Assumptions + Send + Sync, N: Callers + Send + Sync> Ground
+impl<'a, P: System, L: Ledger + Send + Sync, N: Callers + Send + Sync> Ground
     for OnSystem<'a, P, L, N> {
     type Places = L;
 
     type Callers = N;
 
     type File = RulesOnDisk;
-
-    type Folder = NoFolder<RulesOnDisk>;
-
-    ghost is_servers = { true };
 }
 
-impl<'a, P: System, L: Assumptions + Send + Sync, N: Callers + Send + Sync> ServiceGround
+impl<'a, P: System, L: Ledger + Send + Sync, N: Callers + Send + Sync> ServiceGround
     for OnSystem<'a, P, L, N> {
     type Runtime = P::Runtime;
 
-    type Handle = FolderHandle<'a, L, SystemDisk<&'a P::Runtime, NoWait>>;
+    type Handle = FolderHandle<'a, SystemDisk<&'a P::Runtime, NoWait>>;
 
-    type Rules = FolderRules<'a, L, P::Runtime>;
+    type Rules = FolderRules<'a, P::Runtime>;
 
     type Lines = P::Lines;
 }
 
-impl<'a, P: System, L: Assumptions + Send + Sync, N: Callers + Send + Sync> Host
+impl<'a, P: System, L: Ledger + Send + Sync, N: Callers + Send + Sync> Host
     for OnSystem<'a, P, L, N> {
     type Connection = Connection<'a, P::Runtime>;
 

@@ -1,46 +1,42 @@
 //! The tool: its words, what it opens, and the server.
-ghost use Rattle.std.specs.Prelude.{◌≡◌, ◌⊎◌, false, true, map, option_copied, IfOk, IfErr};
+ghost use Rattle.std.specs.Prelude.{◌≡◌, ◌⊎◌, map, IfOk, IfErr};
 ghost use Rattle.fault_hints.specs.Voices.{mode_by_name};
 ghost use Rattle.server_parts.specs.Asked.{FailsNames};
-ghost use Rattle.server_parts.specs.Services.{AreRulesOf};
+ghost use Rattle.server_parts.specs.RulesPaths.{AreRulesOf, rules_missing};
 ghost use Rattle.server_parts.specs.declared.fault.ServerFault.TheVariants.{CannotListen, OutOfMemory, WriteFault};
 ghost use Rattle.ucspi.specs.Asked.{AcceptsAsAsked, AreAsked, AreAskedLimits, IsAskedLog};
 ghost use Rattle.ucspi.specs.Words.{AnswersWords};
 ghost use Rattle.server_words.specs.Operands.{texts};
 ghost use Rattle.server_words.specs.Plans.{plan_of as plan_by_words};
-ghost use Rattle.server_yard.specs.Kept.{rules_of};
-ghost use Rattle.server_yard.specs.Yards.{name_of, yard_books, yard_rules, yard_server};
+ghost use Rattle.server_yard.specs.Yards.{yard_books, yard_missing, yard_server};
 ghost use Rattle.stream_tools.specs.Programs.{text_in, texts_of};
 ghost use Rattle.tcp_streams.specs.Asked.{IsAskedPassing, passing_of};
 
 use crate::ends::Finished;
-use crate::no_folder::NoFolder;
 use crate::rules::FolderRules;
 use crate::serving::{CALLERS, serve};
 use crate::system::{OnSystem, System, SystemOf};
 use byte_streams::Patient;
 use child_jobs::Plan;
-use dir_calls::Name;
 use fault_hints::{Voice, append_help};
-use rule_lookup::WhenMissing;
 use server_events::Journal;
 use server_log::Log;
 use server_parts::causes::tell_failure;
 use server_parts::limits::supply_for;
-use server_parts::opening::{find_rules, hold_standard, names_of, plan_of, print_port};
+use server_parts::opening::{hold_standard, names_of, plan_of, print_port};
 use server_parts::signals::forgets_programs;
-use server_parts::{RulesOnDisk, RulesPath, ServerFailure, ServerFault, TcpserverFault};
+use server_parts::{RulesPath, ServerFailure, ServerFault, TcpserverFault};
 use server_words::{Level, ServerWords, read_server_words};
-use server_yard::{Assumptions, Yard};
+use server_yard::Yard;
 use shared_site::Callers;
 use std::alloc::Global;
 use std::fs::{File, Files};
 use std::io::Write;
-use std::marker::{Brand, PhantomData};
+use std::marker::Brand;
 use std::net::{Net, OpenListener, SocketAddr, TcpStream};
 use std::process::{ChildStdin, OpenProcess, Processes};
 use std::rt::Env;
-use std::sync::ledger::Blank;
+use std::sync::ledger::{Blank, Ledger};
 use std::sync::{Mutex, Wait};
 use std::thread::Threads;
 use std::time::Clock;
@@ -190,33 +186,16 @@ fn open_and_run<'a, P: System + Send + Sync>(
 ) -> Result<Finished, ServerFailure>
     requires asked { AreAsked words.now server.now.plan server.now.service server.now.passing }
 {
-    let (rules, name) = rules_and_name(rt.alloc(), rt, words)?;
+    let rules = RulesPath::by_words(rt.alloc(), rt, words)?;
     let acceptor = open_socket::<P>(rt, &server.log, words)?;
     let (search, reserve) = (&server.search, &server.service.reserve);
     let starter = ProgramStarter::new(rt, search, reserve, server.passing, errors);
     let (places, parts) = (Blank::new(words.limits().connections), Blank::new(CALLERS));
-    let name = name.as_ref();
-    run_site::<Brand, Brand, P>(
-        rt, server, acceptor, rules, name, &starter, words, places, parts,
-    )
-}
-
-// The name of the rules file with what is done if it is missing, and the name once more: the yard takes one, and
-// connections look at the other.
-fn rules_and_name<R: Files>(
-    alloc: Global,
-    files: &R,
-    words: &ServerWords<'_>,
-) -> Result<(Option<(Name, WhenMissing)>, Option<Name>), ServerFailure>
-    ensures asked { IfOk result (λ found. AreRulesOf words.now found.0) }
-    ensures named { IfOk result (λ found. found.1 ≡ name_of (rules_of found.0)) }
-{
-    let rules = find_rules(alloc, files, words)?;
-    let name = match &rules {
-        Some((name, _)) => Some(name.copy(alloc)?),
-        None => None,
-    };
-    Ok((rules, name))
+    let run = run_site::<Brand, Brand, P>(
+        rt, server, acceptor, &rules, &starter, words, places, parts,
+    );
+    drop(rules);
+    run
 }
 
 // The connections of a socket that listens where the words say, which a person is told. Its port is printed where the
@@ -256,12 +235,11 @@ fn tell_names<R: Files<File = File> + Wait, E: Write + Drop>(
 }
 
 // The server over a yard of its own, which serves by what was made of the words.
-fn run_site<'a, L: Assumptions + Send + Sync, N: Callers + Send + Sync, P: System + Send + Sync>(
+fn run_site<'a, L: Ledger + Send + Sync, N: Callers + Send + Sync, P: System + Send + Sync>(
     rt: &'a P::Runtime,
     server: &'a ServerParts<'_, P::Lines>,
     acceptor: SocketAcceptor<'a, P::Runtime, P::Listener>,
-    rules: Option<(Name, WhenMissing)>,
-    name: Option<&'a Name>,
+    rules: &'a RulesPath<'a, P::Runtime>,
     starter: &'a ProgramStarter<'a, P::Runtime, P::Errors>,
     words: &'a ServerWords<'_>,
     places: Blank,
@@ -269,23 +247,17 @@ fn run_site<'a, L: Assumptions + Send + Sync, N: Callers + Send + Sync, P: Syste
 ) -> Result<Finished, ServerFailure>
     requires places { (places.name ≡ L.name) × (places.parts ≡ L.parts)
         × (places.parts ≡ words.now.limits.connections) }
-    requires met { L.met ≡ false }
     requires parts { (parts.name ≡ N.name) × (parts.parts ≡ N.parts) × (parts.parts ≡ CALLERS) }
     requires callers { (N.before ≡ 0) × (N.admissions ≡ server.now.service.limits.count) }
     requires asked { AreAsked words.now server.now.plan server.now.service server.now.passing }
-    requires rules { AreRulesOf words.now rules }
-    requires named { option_copied name ≡ name_of (rules_of rules) }
+    requires rules { AreRulesOf words.now rules.now }
     requires accepts { AcceptsAsAsked P.listens words.now acceptor }
     requires starts { IsAskedPassing words.now (passing_of starter.now) }
 {
     let alloc = rt.alloc();
-    let at = RulesPath::by_words(rt, words, name);
-    tell_names(rt, alloc, &server.log, &at, words);
-    let yard = yard_of::<L>(alloc, rules, words, places)?;
-    let rules = FolderRules::<L, P::Runtime> {
-        at,
-        yard: PhantomData,
-    };
+    tell_names(rt, alloc, &server.log, rules, words);
+    let yard = yard_of::<L, P::Runtime>(alloc, rules, words, places)?;
+    let rules = FolderRules(rules);
     serve::<OnSystem<'a, P, L, N>, SocketAcceptor<'a, P::Runtime, P::Listener>>(
         rt,
         alloc,
@@ -300,29 +272,26 @@ fn run_site<'a, L: Assumptions + Send + Sync, N: Callers + Send + Sync, P: Syste
     )
 }
 
-// A yard of this rules file, with the limits of the words.
-fn yard_of<L: Assumptions>(
+// A yard of a server with these rules, with the limits of the words.
+fn yard_of<L: Ledger, R: Files<File = File>>(
     alloc: Global,
-    rules: Option<(Name, WhenMissing)>,
+    rules: &RulesPath<'_, R>,
     words: &ServerWords<'_>,
     places: Blank,
-) -> Result<Yard<L, NoFolder<RulesOnDisk>>, ServerFault>
+) -> Result<Yard<L>, ServerFault>
     requires places { (places.name ≡ L.name) × (places.parts ≡ L.parts)
         × (places.parts ≡ words.now.limits.connections) }
-    requires met { L.met ≡ false }
-    requires rules { AreRulesOf words.now rules }
     ensures limits { IfOk result (λ yard.
         AreAskedLimits words.now (yard_server yard).limit (yard_server yard).per_address) }
-    ensures rules { IfOk result (λ yard. yard_rules yard ≡ rules_of rules) }
+    ensures missing { IfOk result (λ yard. yard_missing yard ≡ rules_missing rules.now) }
     ensures new { IfOk result (λ yard. (yard_books yard).count ≡ 0) }
     ensures refused { IfErr result (λ fault. fault ≡ OutOfMemory) }
 {
     let limits = words.limits();
-    let made = Yard::<L, NoFolder<RulesOnDisk>>::with_address_limit(
+    let made = Yard::<L>::new(
         alloc,
         places,
-        NoFolder(PhantomData),
-        rules,
+        rules.missing(),
         limits.connections,
         limits.per_address,
         Journal::counting(),

@@ -7,17 +7,24 @@ use Rattle.dir_calls.specs.declared.phase.Phase.{Phase}
 use Rattle.rules_install.specs.declared.fault.InstallFault.{InstallFault}
 use Rattle.server_events.specs.declared.event.Event.{Event}
 use Rattle.server_yard.specs.Rolls.{NotesSome, Roll}
-use Rattle.server_yard.specs.Stepping.{event_of_step, step_event}
-use Rattle.server_yard.specs.Yards.{IsSameBeside, IsSameButDirectory, MayBegin, kept_under, last_begun, name_of, yard_rules}
-use Rattle.server_yard.specs.declared.yard.Yard.{Yard}
+use Rattle.whole_yard.specs.Stepping.{event_of_step, step_event}
+use Rattle.whole_yard.specs.WholeYards.{IsSameBesides, IsSameButDirectory, MayBegin, kept_under, last_begun, name_of, whole_roll, whole_rules, whole_state}
+use Rattle.whole_yard.specs.declared.yard.WholeYard.{WholeYard}
 use Rattle.shared_site.specs.Receipts.{CountsAtMostOne, receipt_after, receipt_at}
 use Rattle.shared_site.specs.Turns.{IsLastOf, spoken_by}
-use Rattle.shared_site.proofs.Counts.{one_counted, quiet_counted}
+use Rattle.whole_yard.proofs.Counts.{one_counted, quiet_counted}
 use Rattle.shared_site.proofs.Making.{last_of}
 
+-- who speaks is nothing that worlds see
+pub spoken_state : {L D F : Type 0} {p : _} {l : _} {d : _} (who : ℕ)
+    (old mid : WholeYard L D F p l d) → whole_roll mid ≡ spoken_by who (whole_roll old) → IsSameBesides old mid
+    → whole_state mid ≡ whole_state old
+spoken_state {l = l} who old mid speaks same =
+    λ i. record { directory = l.state (same.directory i); rules = same.rules i; server = (speaks i).server; installing = same.installing i }
+
 -- what a call keeps is as it was before its caller spoke
-pub same_from : {L D F : Type 0} {p : _} {l : _} {d : _} (old mid new : Yard L D F p l d)
-    → IsSameBeside old mid → IsSameButDirectory mid new → IsSameButDirectory old new
+pub same_from : {L D F : Type 0} {p : _} {l : _} {d : _} (old mid new : WholeYard L D F p l d)
+    → IsSameBesides old mid → IsSameButDirectory mid new → IsSameButDirectory old new
 same_from old mid new spoken same = record {
   rules = same.rules ∙ spoken.rules;
   installing = same.installing ∙ spoken.installing;
@@ -27,8 +34,8 @@ same_from old mid new spoken same = record {
 }
 
 -- an installation that may begin may still
-pub may_begin_from : {L D F : Type 0} {p : _} {l : _} {d : _} (y x : Yard L D F p l d) (s : Installing)
-    → yard_rules x ≡ yard_rules y → last_begun x ≡ last_begun y → MayBegin y s → MayBegin x s
+pub may_begin_from : {L D F : Type 0} {p : _} {l : _} {d : _} (y x : WholeYard L D F p l d) (s : Installing)
+    → whole_rules x ≡ whole_rules y → last_begun x ≡ last_begun y → MayBegin y s → MayBegin x s
 may_begin_from y x s rules begun may = record {
   unbegun = may.unbegun;
   is_open = may.is_open;
@@ -37,8 +44,8 @@ may_begin_from y x s rules begun may = record {
 }
 
 -- and the one that is kept is as far as it was
-pub spoken_kept : {L D F : Type 0} {p : _} {l : _} {d : _} (old mid : Yard L D F p l d) (number : ℕ)
-    → IsSameBeside old mid → kept_under mid number ≡ kept_under old number
+pub spoken_kept : {L D F : Type 0} {p : _} {l : _} {d : _} (old mid : WholeYard L D F p l d) (number : ℕ)
+    → IsSameBesides old mid → kept_under mid number ≡ kept_under old number
 spoken_kept old mid number same = λ i. if same.begun i == number then same.installing i else None
 
 -- the receipt of an event is that of the one after those before

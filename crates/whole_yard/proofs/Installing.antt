@@ -7,7 +7,7 @@ use Rattle.dir_calls.specs.declared.phase.Phase.{Phase}
 use Rattle.rules_install.specs.declared.fault.InstallFault.{InstallFault}
 use Rattle.server_events.specs.declared.event.Event.{Event}
 use Rattle.server_yard.specs.Rolls.{NotesSome, Roll}
-use Rattle.server_yard.specs.Stepping.{event_of_step, step_event}
+use Rattle.whole_yard.specs.Stepping.{event_of_step, step_event}
 use Rattle.shared_site.specs.Receipts.{made_event, receipt_after, receipt_of}
 use Rattle.shared_site.specs.Turns.{spoken_by}
 use Rattle.shared_site.specs.declared.receipt.Made.{Made}

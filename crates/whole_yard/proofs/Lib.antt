@@ -1,4 +1,26 @@
 -- Lemmas.
+pub mod Meeting
+pub mod Leading
+pub mod Stopping
+pub mod Along
+pub mod Stepped
+pub mod Matching
+pub mod Installs
+pub mod Keeping
+pub mod Going
+pub mod Beginning
+pub mod Refusals
+pub mod Noting
+pub mod Opened
+pub mod Reached
+pub mod Served
+pub mod Besides
+pub mod OpenedBefore
+pub mod SoonerOpenings
+pub mod Told
+pub mod WholeRun
+pub mod ReadersLemmas
+pub mod Counts
 pub mod Auditing
 pub mod Calling
 pub mod Installing

@@ -1,4 +1,16 @@
--- A yard that makes all calls: its own turns, and whether receipts are its history.
+-- A yard that makes all calls: the connections of a server and installations beside them, what the headline's worlds see
+-- of both, and whether receipts are its history.
+pub mod UnderWay
+pub mod Series
+pub mod Standing
+pub mod Serving
+pub mod Telling
+pub mod Findings
+pub mod Stepping
+pub mod Installed
+pub mod Readers
+pub mod Kept
+pub mod WholeYards
 pub mod YardTurns
 pub mod Audits
 pub mod Closings

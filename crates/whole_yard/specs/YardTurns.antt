@@ -7,10 +7,13 @@ use Rattle.dir_calls.specs.declared.phase.Phase.{Phase}
 use Rattle.rules_install.specs.declared.fault.InstallFault.{InstallFault}
 use Rattle.rules_install.specs.declared.install.Install.{Install}
 use Rattle.server_yard.specs.Passes.{pass_serial}
-use Rattle.server_yard.specs.Stepping.{BeginAnswer, HandsBack, begin_event, step_event}
+use Rattle.whole_yard.specs.Stepping.{BeginAnswer, HandsBack, begin_event, step_event}
 use Rattle.server_yard.specs.declared.pass.Pass.{Pass}
 use Rattle.shared_site.specs.Receipts.{made_event, receipt_after, receipt_of}
-use Rattle.shared_site.specs.Turns.{opened_by}
+use Rattle.server_yard.specs.Seating.{KeepsSeats}
+use Rattle.shared_site.specs.Turns.{opened_by, spoken_by}
+use Rattle.whole_yard.specs.WholeYards.{IsSameBesides, whole_roll, whole_seat}
+use Rattle.whole_yard.specs.declared.yard.WholeYard.{WholeYard}
 use Rattle.shared_site.specs.declared.receipt.Made.{Made}
 use Rattle.whole_yard.specs.declared.open_turn.OpenFault.{OpenFault}
 use Rattle.whole_yard.specs.declared.open_turn.OpenFault.TheVariants.{Device}
@@ -27,8 +30,8 @@ CountsDevice before now result = now ≡ before
 
 -- the caller with this number opened the rules for a connection, by the next event after this many; or no event was
 -- made
-abbrev pub OpensOrNot : {L F O : Type 0} {p : _} {l : _} {f : _} → (serial : ℕ) → (who before : ℕ)
-    → Result (Pass L F p l f × Made) O → (after : ℕ) → Type 0
+abbrev pub OpensOrNot : {L F O : Type 0} → (serial : ℕ) → (who before : ℕ)
+    → Result (Pass L F × Made) O → (after : ℕ) → Type 0
 OpensOrNot serial who before answer after =
     IfOk answer (λ r. (pass_serial r.0 ≡ serial)
     × (receipt_of r.1 ≡ receipt_after before who (opened_by serial r.0)) × (after ≡ one_more before))
@@ -48,3 +51,9 @@ StepsOrNot who before answer after =
     IfSome answer.1 (λ made. (step_event answer.0 ≡ Some (made_event made))
     × (receipt_of made ≡ receipt_after before who (made_event made)))
     × CountsMade answer.1 before after
+
+-- a yard is as before, but for the speaker
+pub record IsOnlySpoken {L D F : Type 0} {p : _} {d : _} {f : _} (who : ℕ) (old new : WholeYard L D F p d f) : Type 0 where
+  pub roll : whole_roll new ≡ spoken_by who (whole_roll old)
+  pub beside : IsSameBesides old new
+  pub seats : KeepsSeats (whole_seat old) (whole_seat new)

@@ -1,14 +1,16 @@
 //! The end of a site: its receipts are its whole history.
 ghost use Rattle.std.specs.Prelude.{◌≡◌, ◌≢◌, ◌+◌, ◌↔◌, Err, IsOk, IfOk, IfErr, OnOk, length};
-ghost use Rattle.server_yard.specs.Yards.{yard_books};
+ghost use Rattle.whole_yard.specs.WholeYards.{whole_books};
 ghost use Rattle.whole_yard.specs.Closings.{IsNotWhole, IsWhole};
 ghost use Rattle.whole_yard.specs.declared.closing.NotWhole.TheVariants.{Missing};
 
+use crate::assumptions::Assumptions;
 use crate::audit::{Mismatch, audit};
 use crate::laws::whole;
+use crate::site::WholeSite;
+use crate::yard::WholeYard;
 use dir_calls::Dir;
-use server_yard::{Assumptions, Yard};
-use shared_site::{Ground, Receipt, Site, YardOf};
+use shared_site::{Callers, Receipt};
 use std::sync::ledger::{Ledger, Share};
 
 /// The callers of a site that make no events any more, with the events of all of them.
@@ -40,12 +42,12 @@ pub enum NotWhole {
 /// `OnlyCounted` if the journal of the yard stores no events; `Wrong` with the first receipt that is wrong; otherwise
 /// `Missing`.
 pub fn audit_whole<L: Assumptions, D: Dir + Drop>(
-    yard: &Yard<L, D>,
+    yard: &WholeYard<L, D>,
     receipts: &[Receipt],
 ) -> Result<(), NotWhole>
-    ensures whole { OnOk result (IsWhole (yard_books yard.now).notes receipts.now) }
-    ensures refused { IfErr result (IsNotWhole (yard_books yard.now).notes receipts.now) }
-    ensures missing { result ≡ Err Missing → length receipts.now ≢ (yard_books yard.now).count }
+    ensures whole { OnOk result (IsWhole (whole_books yard.now).notes receipts.now) }
+    ensures refused { IfErr result (IsNotWhole (whole_books yard.now).notes receipts.now) }
+    ensures missing { result ≡ Err Missing → length receipts.now ≢ (whole_books yard.now).count }
 {
     whole();
     yard.history();
@@ -68,16 +70,16 @@ pub fn audit_whole<L: Assumptions, D: Dir + Drop>(
 ///
 /// # Errors
 /// Some caller is lacking. The site and the callers are handed back.
-pub fn close_and_audit<G: Ground>(
-    site: Site<G>,
-    callers: BackCallers<G::Callers>,
+pub fn close_and_audit<L: Assumptions, N: Callers, D: Dir + Drop>(
+    site: WholeSite<L, N, D>,
+    callers: BackCallers<N>,
     receipts: &[Receipt],
-) -> Result<(YardOf<G>, Result<(), NotWhole>), (Site<G>, BackCallers<G::Callers>)>
-    requires all { callers.all ≡ G.Callers.parts }
+) -> Result<(WholeYard<L, D>, Result<(), NotWhole>), (WholeSite<L, N, D>, BackCallers<N>)>
+    requires all { callers.all ≡ N.parts }
     ensures all { IsOk result ↔ (callers.lacking ≡ 0) }
-    ensures whole { IfOk result (λ r. OnOk r.1 (IsWhole (yard_books r.0).notes receipts.now)) }
-    ensures refused { IfOk result (λ r. IfErr r.1 (IsNotWhole (yard_books r.0).notes receipts.now)) }
-    ensures complete { G.Callers.before + callers.share.amount ≡ length receipts.now
+    ensures whole { IfOk result (λ r. OnOk r.1 (IsWhole (whole_books r.0).notes receipts.now)) }
+    ensures refused { IfOk result (λ r. IfErr r.1 (IsNotWhole (whole_books r.0).notes receipts.now)) }
+    ensures complete { N.before + callers.share.amount ≡ length receipts.now
         → IfOk result (λ r. r.1 ≢ Err Missing) }
     ensures back { IfErr result (λ r. (r.0 ≡ site) × (r.1 ≡ callers)) }
 {

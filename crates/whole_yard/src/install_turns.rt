@@ -1,29 +1,30 @@
 //! Turns of installations: to begin one, and to make its next step. Each notes its caller as the speaker, makes the
-//! yard's call of its name, and answers which event that was, if it was one. The yard is not a server's, which installs
-//! nothing.
-ghost use Rattle.std.specs.Prelude.{◌≡◌, ◌≢◌, ◌+◌, ◌↔◌, false, Err, None, Some, IsTrue, IfOk, IfErr, IfSome, Ok, option_map, if◌then◌else◌};
+//! yard's call of its name, and answers which event that was, if it was one.
+ghost use Rattle.std.specs.Prelude.{◌≡◌, ◌≢◌, ◌+◌, ◌↔◌, ⊤, Err, None, Some, IsTrue, IfOk, IfErr, IfSome, Ok, option_map, if◌then◌else◌};
 ghost use Rattle.rules_install.specs.Installs.{installing};
 ghost use Rattle.rules_install.specs.Steps.{BlamesDevice, BlamesFault, IsOfDevice};
 ghost use Rattle.dir_calls.specs.declared.phase.Phase.TheVariants.{Done};
 ghost use Rattle.rules_install.specs.declared.fault.InstallFault.TheVariants.{Over};
 ghost use Rattle.server_yard.specs.Rolls.{NotesSome};
 ghost use Rattle.server_yard.specs.Seating.{KeepsSeats};
-ghost use Rattle.server_yard.specs.Standing.{LeadsSome};
-ghost use Rattle.server_yard.specs.Stepping.{GoesAsStep, IsRefusedAs, begin_event, event_of_step, fault_event, kept_after_begin, kept_after_step, last_begun_after, lists_after_begin, step_event};
-ghost use Rattle.server_yard.specs.Yards.{LeavesNothingElse, MayBegin, kept_number, kept_under, last_begun, yard_books, yard_directory, yard_installing, yard_roll, yard_rules, yard_seat, yard_state};
+ghost use Rattle.whole_yard.specs.Standing.{LeadsSome};
+ghost use Rattle.whole_yard.specs.Stepping.{GoesAsStep, IsRefusedAs, begin_event, event_of_step, fault_event, kept_after_begin, kept_after_step, last_begun_after, lists_after_begin, step_event};
+ghost use Rattle.whole_yard.specs.WholeYards.{LeavesNothingElse, MayBegin, kept_number, kept_under, last_begun, whole_books, whole_directory, whole_installing, whole_roll, whole_rules, whole_seat, whole_state};
 ghost use Rattle.shared_site.specs.Receipts.{CountsAtMostOne, receipt_after, receipt_at, receipt_of};
 ghost use Rattle.shared_site.specs.Turns.{IsLastOf, spoken_by};
 ghost use Rattle.whole_yard.specs.YardTurns.{BeginsOrNot, StepsOrNot};
 
-use dir_calls::Phase;
+use crate::assumptions::Assumptions;
+use crate::site::WholeTurn;
+use crate::yard::WholeYard;
+use dir_calls::{Dir, Phase};
 use rules_install::{Install, InstallFault};
 use server_events::Event;
+use shared_site::Made;
 use shared_site::receipt::EventSnapshot;
-use shared_site::site::made;
-use shared_site::{Ground, Made, Turn, YardOf};
 use std::alloc::Global;
 
-/// Begins an installation, as `Yard::install_begin` does. The answer also has the event, if it was one: a first step,
+/// Begins an installation, as `WholeYard::install_begin` does. The answer also has the event, if it was one: a first step,
 /// or a fault of the directory.
 #[derive(Drop)]
 pub struct InstallBegin {
@@ -33,50 +34,47 @@ pub struct InstallBegin {
     pub install: Install,
 }
 
-impl<G: Ground> Turn<G> for InstallBegin {
+impl<L: Assumptions, D: Dir + Drop> WholeTurn<L, D> for InstallBegin {
     type Answer = (Result<u64, (Install, InstallFault)>, Option<Made>);
 
-    ghost may = { λ _. G.is_servers ≡ false };
+    ghost may = { λ _. ⊤ };
 
     ghost answers = { λ turn. BeginsOrNot (installing turn.install) };
 
-    ghost tells = { λ _ _. None };
-
     fn run(
         self,
-        yard: &mut YardOf<G>,
+        yard: &mut WholeYard<L, D>,
         caller: u64,
     ) -> (Result<u64, (Install, InstallFault)>, Option<Made>)
-        requires not_servers { G.is_servers ≡ false }
         ensures answers { BeginsOrNot (installing self.install)
-            caller (yard_books yard.old).count result (yard_books yard.new).count }
-        ensures counts { CountsAtMostOne (yard_books yard.old).count (yard_books yard.new).count }
+            caller (whole_books yard.old).count result (whole_books yard.new).count }
+        ensures counts { CountsAtMostOne (whole_books yard.old).count (whole_books yard.new).count }
         ensures over { IsRefusedAs Over result.0 ↔ ¬ MayBegin yard.old (installing self.install) }
         ensures number { IfOk result.0 (λ number. number ≡ last_begun yard.old + 1) }
         ensures begun { last_begun yard.new ≡ last_begun_after result.0 (last_begun yard.old) }
         ensures kept { kept_number yard.new ≡ kept_after_begin result.0 (kept_number yard.old) }
-        ensures rules { yard_rules yard.new ≡ yard_rules yard.old }
-        ensures noted { NotesSome (begin_event result.0) (spoken_by caller (yard_roll yard.old)) (yard_roll yard.new) }
-        ensures step { IsTrue G.Folder.honest → LeadsSome
-            (begin_event result.0) (yard_state yard.old) (yard_state yard.new) }
-        ensures stops { IsTrue G.Folder.honest → LeavesNothingElse yard.old yard.new }
-        ensures lists { (yard_books yard.new).lists
-            ≡ lists_after_begin result.0 (installing self.install).rules (yard_books yard.old).lists }
-        ensures device { IsTrue G.Folder.honest → IfErr result.0 (λ r. IsOfDevice (Err r.1)) }
+        ensures rules { whole_rules yard.new ≡ whole_rules yard.old }
+        ensures noted { NotesSome (begin_event result.0) (spoken_by caller (whole_roll yard.old)) (whole_roll yard.new) }
+        ensures step { IsTrue D.honest → LeadsSome
+            (begin_event result.0) (whole_state yard.old) (whole_state yard.new) }
+        ensures stops { IsTrue D.honest → LeavesNothingElse yard.old yard.new }
+        ensures lists { (whole_books yard.new).lists
+            ≡ lists_after_begin result.0 (installing self.install).rules (whole_books yard.old).lists }
+        ensures device { IsTrue D.honest → IfErr result.0 (λ r. IsOfDevice (Err r.1)) }
         ensures blames { IfErr result.0 (λ r.
-            BlamesFault (G.Folder.failed (yard_directory yard.old)) (G.Folder.failed (yard_directory yard.new)) r.1) }
-        ensures untouched { IsRefusedAs Over result.0 → yard_directory yard.new ≡ yard_directory yard.old }
-        ensures seats { KeepsSeats (yard_seat yard.old) (yard_seat yard.new) }
+            BlamesFault (D.failed (whole_directory yard.old)) (D.failed (whole_directory yard.new)) r.1) }
+        ensures untouched { IsRefusedAs Over result.0 → whole_directory yard.new ≡ whole_directory yard.old }
+        ensures seats { KeepsSeats (whole_seat yard.old) (whole_seat yard.new) }
     {
         let InstallBegin { alloc, install } = self;
         yard.speaker(caller);
         let answer = yard.install_begin(alloc, install);
-        let made = evidence::<G>(yard, caller, begin_event(&answer));
+        let made = evidence(yard, caller, begin_event(&answer));
         (answer, made)
     }
 }
 
-/// Makes the next step of an installation, as `Yard::install_step` does. The answer also has the event, if it was one:
+/// Makes the next step of an installation, as `WholeYard::install_step` does. The answer also has the event, if it was one:
 /// a step of an installation under way, or a fault of the directory.
 #[derive(Drop)]
 pub struct InstallStep {
@@ -86,58 +84,63 @@ pub struct InstallStep {
     pub number: u64,
 }
 
-impl<G: Ground> Turn<G> for InstallStep {
+impl<L: Assumptions, D: Dir + Drop> WholeTurn<L, D> for InstallStep {
     type Answer = (Result<Phase, InstallFault>, Option<Made>);
 
-    ghost may = { λ _. G.is_servers ≡ false };
+    ghost may = { λ _. ⊤ };
 
     ghost answers = { λ _. StepsOrNot };
 
-    ghost tells = { λ _ _. None };
-
-    fn run(self, yard: &mut YardOf<G>, caller: u64) -> (Result<Phase, InstallFault>, Option<Made>)
-        requires not_servers { G.is_servers ≡ false }
-        ensures answers { StepsOrNot caller (yard_books yard.old).count result (yard_books yard.new).count }
-        ensures counts { CountsAtMostOne (yard_books yard.old).count (yard_books yard.new).count }
+    fn run(
+        self,
+        yard: &mut WholeYard<L, D>,
+        caller: u64,
+    ) -> (Result<Phase, InstallFault>, Option<Made>)
+        ensures answers { StepsOrNot caller (whole_books yard.old).count result (whole_books yard.new).count }
+        ensures counts { CountsAtMostOne (whole_books yard.old).count (whole_books yard.new).count }
         ensures receipt { option_map receipt_of result.1
-            ≡ option_map (receipt_after (yard_books yard.old).count caller)
+            ≡ option_map (receipt_after (whole_books yard.old).count caller)
             (event_of_step (kept_under yard.old self.number) result.0) }
         ensures over { (result.0 ≡ Err Over) ↔ (kept_number yard.old ≢ Some self.number) }
         ensures after_done { kept_number yard.old ≡ Some self.number
-            → yard_installing yard.old ≡ None → result.0 ≡ Ok Done }
+            → whole_installing yard.old ≡ None → result.0 ≡ Ok Done }
         ensures noted { NotesSome (event_of_step (kept_under yard.old self.number) result.0)
-            (spoken_by caller (yard_roll yard.old)) (yard_roll yard.new) }
-        ensures step { IsTrue G.Folder.honest → LeadsSome (event_of_step (kept_under yard.old self.number) result.0)
-            (yard_state yard.old) (yard_state yard.new) }
-        ensures stops { IsTrue G.Folder.honest → LeavesNothingElse yard.old yard.new }
+            (spoken_by caller (whole_roll yard.old)) (whole_roll yard.new) }
+        ensures step { IsTrue D.honest → LeadsSome (event_of_step (kept_under yard.old self.number) result.0)
+            (whole_state yard.old) (whole_state yard.new) }
+        ensures stops { IsTrue D.honest → LeavesNothingElse yard.old yard.new }
         ensures goes { IfSome (kept_under yard.old self.number)
-            (λ s. GoesAsStep s (yard_installing yard.new) result.0) }
+            (λ s. GoesAsStep s (whole_installing yard.new) result.0) }
         ensures kept { kept_number yard.new ≡ kept_after_step result.0 (kept_number yard.old) }
         ensures begun { last_begun yard.new ≡ last_begun yard.old }
-        ensures rules { yard_rules yard.new ≡ yard_rules yard.old }
-        ensures lists { (yard_books yard.new).lists ≡ (yard_books yard.old).lists }
-        ensures device { IsTrue G.Folder.honest → IsOfDevice result.0 }
+        ensures rules { whole_rules yard.new ≡ whole_rules yard.old }
+        ensures lists { (whole_books yard.new).lists ≡ (whole_books yard.old).lists }
+        ensures device { IsTrue D.honest → IsOfDevice result.0 }
         ensures blames { BlamesDevice
-            (G.Folder.failed (yard_directory yard.old)) (G.Folder.failed (yard_directory yard.new)) result.0 }
+            (D.failed (whole_directory yard.old)) (D.failed (whole_directory yard.new)) result.0 }
         ensures untouched { kept_under yard.old self.number ≡ None
-            → yard_directory yard.new ≡ yard_directory yard.old }
-        ensures seats { KeepsSeats (yard_seat yard.old) (yard_seat yard.new) }
+            → whole_directory yard.new ≡ whole_directory yard.old }
+        ensures seats { KeepsSeats (whole_seat yard.old) (whole_seat yard.new) }
     {
         let InstallStep { alloc, number } = self;
         yard.speaker(caller);
         let under_way = yard.is_under_way(number);
         let answer = yard.install_step(alloc, number);
-        let made = evidence::<G>(yard, caller, step_event(under_way, answer));
+        let made = evidence(yard, caller, step_event(under_way, answer));
         (answer, made)
     }
 }
 
 // Evidence of the event that a caller made last, if it made one.
-fn evidence<G: Ground>(yard: &YardOf<G>, caller: u64, event: Option<Event>) -> Option<Made>
-    requires { IfSome event (λ event. IsLastOf caller event (yard_roll yard.now)) }
-    ensures { option_map receipt_of result ≡ option_map (receipt_at (yard_books yard.now).count caller) event }
+fn evidence<L: Assumptions, D: Dir + Drop>(
+    yard: &WholeYard<L, D>,
+    caller: u64,
+    event: Option<Event>,
+) -> Option<Made>
+    requires { IfSome event (λ event. IsLastOf caller event (whole_roll yard.now)) }
+    ensures { option_map receipt_of result ≡ option_map (receipt_at (whole_books yard.now).count caller) event }
 {
-    Some(made::<G>(yard, caller, EventSnapshot::of(event?)))
+    Some(yard.made(caller, EventSnapshot::of(event?)))
 }
 
 // Which event a first step was, if it was one.

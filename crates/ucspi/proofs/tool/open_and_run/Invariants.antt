@@ -1,11 +1,7 @@
-use Rattle.std.specs.Prelude.{false}
 use Rattle.ucspi.proofs.tool.open_and_run.Given as goal
 
 abbrev pub ghosts-run_site-L-Ledger : goal.ghosts-run_site-L-Ledger
 ghosts-run_site-L-Ledger g a = record { name = a.places.name; parts = a.places.parts }
-
-abbrev pub ghosts-run_site-L-Assumptions : goal.ghosts-run_site-L-Assumptions
-ghosts-run_site-L-Assumptions g a = record { met = false }
 
 abbrev pub ghosts-run_site-N-Ledger : goal.ghosts-run_site-N-Ledger
 ghosts-run_site-N-Ledger g a = record { name = a.parts.name; parts = a.parts.parts }

@@ -5,4 +5,4 @@ use Rattle.server_yard.proofs.yard.Yard.unbegun.Goals as goal
 pub returns : goal.returns
 returns g c = λ none.
     let self = c.args.self.now in
-    run_of_none (yard_books self) (yard_server self) self.register.history none
+    run_of_none (yard_books self) (yard_server self) self.history none

@@ -5,7 +5,7 @@ use Rattle.server_yard.specs.Yards.{yard_roll}
 use Rattle.shared_site.specs.Turns.{spoken_by}
 use Rattle.shared_site.proofs.Spoken.{notes_from}
 use Rattle.shared_site.proofs.Counting.{exactly_next}
-use Rattle.shared_site.proofs.Making.{answered, counted, last_of}
+use Rattle.shared_site.proofs.Making.{answered, last_of}
 use Rattle.shared_site.proofs.site.AdmitTurn.run.Goals as goal
 
 pub returns-in-Ok-clause-noted : goal.returns-in-Ok-clause-noted
@@ -20,11 +20,6 @@ made-requires g c = record {
       (yard_roll c.args.yard.now) (yard_roll c.speaker.new.self) (yard_roll c.admit.new.self) c.speaker.ensures.speaks c.in-Ok.ensures.noted (cc);
 }
 
-pub returns-in-Ok-clause-counts : goal.returns-in-Ok-clause-counts
-returns-in-Ok-clause-counts g c =
-    counted c.args.caller (event.Admitted c.in-Ok.serial c.args.self.peer.now)
-    (yard_roll c.args.yard.now) (yard_roll c.admit.new.self) (returns-in-Ok-clause-noted g c)
-
 pub returns-in-Ok-clause-answers : goal.returns-in-Ok-clause-answers
 returns-in-Ok-clause-answers g c =
     let r = answered c.args.caller (event.Admitted c.in-Ok.serial c.args.self.peer.now) _ c.made.result
@@ -32,8 +27,8 @@ returns-in-Ok-clause-answers g c =
     ((r.0, exactly_next _ _ (search rules) (search rules) r.1), tt)
 
 pub returns-in-Ok-clause-notes : goal.returns-in-Ok-clause-notes
-returns-in-Ok-clause-notes g c = λ _. (refl, returns-in-Ok-clause-noted g c)
+returns-in-Ok-clause-notes g c = (refl, returns-in-Ok-clause-noted g c, search rules)
 
 pub returns-in-Err-clause-notes : goal.returns-in-Err-clause-notes
-returns-in-Err-clause-notes g c = λ _.
+returns-in-Err-clause-notes g c =
     subst (λ (r : Roll). IsQuiet r (yard_roll c.admit.new.self)) c.speaker.ensures.speaks (search rules)

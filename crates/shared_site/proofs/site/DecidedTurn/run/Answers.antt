@@ -2,7 +2,7 @@ use Rattle.std.proofs.Common.{refl, rules}
 use Rattle.server_events.specs.declared.event.Event.TheVariants as event
 use Rattle.server_yard.specs.Passes.{pass_serial}
 use Rattle.server_yard.specs.Yards.{yard_roll}
-use Rattle.shared_site.proofs.Making.{answered, counted, last_of, made_by, stays}
+use Rattle.shared_site.proofs.Making.{answered, last_of, made_by, stays}
 use Rattle.shared_site.proofs.site.DecidedTurn.run.Goals as goal
 
 pub returns-clause-makes : goal.returns-clause-makes
@@ -19,19 +19,14 @@ made-requires g c = record {
       (yard_roll c.args.yard.now) (yard_roll c.speaker.new.self) (yard_roll c.decided.new.self) c.speaker.ensures.speaks c.decided.ensures.noted (cc);
 }
 
-pub returns-clause-counts : goal.returns-clause-counts
-returns-clause-counts g c =
-    counted c.args.caller (event.Decided (pass_serial c.args.self.pass) c.args.self.decision)
-    (yard_roll c.args.yard.now) (yard_roll c.decided.new.self) (returns-clause-makes g c).noted
-
 pub returns-clause-answers : goal.returns-clause-answers
 returns-clause-answers g c =
     answered c.args.caller (event.Decided (pass_serial c.args.self.pass) c.args.self.decision) _ c.made.result
     (yard_roll c.args.yard.now) (yard_roll c.decided.new.self) (returns-clause-makes g c).noted refl (search rules)
 
 pub returns-clause-notes : goal.returns-clause-notes
-returns-clause-notes g c = λ _. (refl, (returns-clause-makes g c).noted)
+returns-clause-notes g c = (refl, (returns-clause-makes g c).noted, tt)
 
 pub returns-then-not-may_be_decided-clause-notes : goal.returns-then-not-may_be_decided-clause-notes
-returns-then-not-may_be_decided-clause-notes g c = λ _.
+returns-then-not-may_be_decided-clause-notes g c =
     stays c.args.caller (yard_roll c.args.yard.now) (yard_roll c.speaker.new.self) c.speaker.ensures.speaks

@@ -3,8 +3,9 @@ use Rattle.std.specs.Prelude.{None}
 use Rattle.server_events.specs.ServerState.{stage_of}
 use Rattle.server_yard.specs.Leavings.{leaving_event, may_leave}
 use Rattle.server_yard.specs.Yards.{yard_roll, yard_server}
-use Rattle.server_yard.proofs.LeavingEvents.{leaves_from_none}
-use Rattle.shared_site.proofs.Making.{answered, counted, last_own, made_own, of_connections, stays}
+use Rattle.server_yard.proofs.LeavingEvents.{leaves, leaves_from_none}
+use Rattle.server_yard.proofs.Peopled.{leaver_fits}
+use Rattle.shared_site.proofs.Making.{answered, last_own, made_own, of_connections, stays}
 use Rattle.shared_site.proofs.site.LeftTurn.run.Goals as goal
 
 pub left-requires : goal.left-requires
@@ -28,10 +29,6 @@ returns-clause-makes g c =
     made_own c.args.caller (leaving_event c.args.self.leaving) _ c.args.self.serial c.args.yard.now c.speak_at.new.yard call.new.self
     at.has_serial c.speak_at.ensures.spoken call.ensures.noted call.ensures.same call.ensures.seats
 
-pub returns-clause-counts : goal.returns-clause-counts
-returns-clause-counts g c =
-    counted c.args.caller (leaving_event c.args.self.leaving c.args.self.serial) (yard_roll c.args.yard.now) (yard_roll c.left.new.self) (returns-clause-makes g c).noted
-
 pub returns-clause-answers : goal.returns-clause-answers
 returns-clause-answers g c =
     answered c.args.caller (leaving_event c.args.self.leaving c.args.self.serial) _ c.made.result
@@ -46,10 +43,13 @@ returns-clause-gone g c =
     subst (λ (n : ℕ). stage_of n (yard_server c.left.new.self).connections ≡ None) at.has_serial c.left.ensures.gone
 
 pub returns-clause-notes : goal.returns-clause-notes
-returns-clause-notes g c = λ _. (of_connections c.args.self.leaving c.args.self.serial, (returns-clause-makes g c).noted)
+returns-clause-notes g c =
+    let l = c.args.self.leaving in
+    let n = c.args.self.serial in
+    (of_connections l n, (returns-clause-makes g c).noted, leaver_fits (leaving_event l n) n (leaves l n))
 
 pub returns-then-not-may_be-clause-in_turn : goal.returns-then-not-may_be-clause-in_turn
 returns-then-not-may_be-clause-in_turn g c = (λ ok. absurd (cc), λ at. let is = (c.speak_at.ensures.passes (may_leave c.args.self.leaving) (leaves_from_none c.args.self.leaving)).1 at in cc)
 
 pub returns-then-not-may_be-clause-notes : goal.returns-then-not-may_be-clause-notes
-returns-then-not-may_be-clause-notes g c = λ _. stays c.args.caller (yard_roll c.args.yard.now) (yard_roll c.speak_at.new.yard) c.speak_at.ensures.spoken.roll
+returns-then-not-may_be-clause-notes g c = stays c.args.caller (yard_roll c.args.yard.now) (yard_roll c.speak_at.new.yard) c.speak_at.ensures.spoken.roll

@@ -1,15 +1,14 @@
 use Rattle.std.proofs.Common.{refl, subst, rules}
 use Rattle.std.specs.Prelude.{Option, is_some}
 use Rattle.server_events.specs.declared.event.Event.TheVariants as event
-use Rattle.server_yard.specs.Passes.{finding_file}
 use Rattle.server_yard.specs.Rolls.{Notes}
 use Rattle.server_yard.specs.Yards.{yard_roll}
-use Rattle.shared_site.proofs.Making.{counted, last_of, made_by, stays}
+use Rattle.shared_site.proofs.Making.{last_of, made_by, stays}
 use Rattle.shared_site.proofs.site.OpenedTurn.run.Goals as goal
 
 pub returns-clause-makes : goal.returns-clause-makes
 returns-clause-makes g c =
-    let file = finding_file c.args.self.finding in
+    let file = c.args.self.file in
     let call = c.opened-pass in
     let spoke = c.speaker.ensures in
     made_by c.args.caller (event.Opened c.args.self.serial (is_some file)) c.args.yard.now c.speaker.new.self call.new.self
@@ -23,13 +22,8 @@ made-requires g c = record {
       c.speaker.ensures.speaks c.opened-pass.ensures.noted (search rules);
 }
 
-pub returns-clause-counts : goal.returns-clause-counts
-returns-clause-counts g c =
-    counted c.args.caller (event.Opened c.args.self.serial (is_some (finding_file c.args.self.finding)))
-    (yard_roll c.args.yard.now) (yard_roll c.opened-pass.new.self) (returns-clause-makes g c).noted
-
 pub returns-clause-notes : goal.returns-clause-notes
-returns-clause-notes g c = λ _. (refl, (returns-clause-makes g c).noted)
+returns-clause-notes g c = (refl, (returns-clause-makes g c).noted, tt)
 
 pub returns-then-not-is_admitted-clause-notes : goal.returns-then-not-is_admitted-clause-notes
-returns-then-not-is_admitted-clause-notes g c = λ _. stays c.args.caller (yard_roll c.args.yard.now) (yard_roll c.speaker.new.self) c.speaker.ensures.speaks
+returns-then-not-is_admitted-clause-notes g c = stays c.args.caller (yard_roll c.args.yard.now) (yard_roll c.speaker.new.self) c.speaker.ensures.speaks

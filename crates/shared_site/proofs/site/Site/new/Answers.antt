@@ -3,4 +3,4 @@ use Rattle.std.proofs.Common.{◌∙◌, sym}
 use Rattle.shared_site.proofs.site.Site.new.Goals as goal
 
 pub invariant_of-new-clause-ran : goal.invariant_of-new-clause-ran
-invariant_of-new-clause-ran g c = λ servers before. c.unbegun.ensures (sym c.requires.before ∙ before)
+invariant_of-new-clause-ran g c = λ before. c.unbegun.ensures (sym c.requires.before ∙ before)

@@ -3,7 +3,7 @@ use Rattle.server_events.specs.ServerState.{is_allowed}
 use Rattle.server_events.specs.declared.event.Event.TheVariants as event
 use Rattle.server_yard.specs.Yards.{yard_roll}
 use Rattle.shared_site.specs.Turns.{IsAt}
-use Rattle.shared_site.proofs.Making.{answered, counted, last_own, made_own, stays}
+use Rattle.shared_site.proofs.Making.{answered, last_own, made_own, stays}
 use Rattle.shared_site.proofs.site.StartedTurn.run.Goals as goal
 
 pub started-requires : goal.started-requires
@@ -27,10 +27,6 @@ returns-clause-makes g c =
     made_own c.args.caller (λ (n : ℕ). event.Started n) _ c.args.self.serial c.args.yard.now c.speak_at.new.yard call.new.self
     at.has_serial c.speak_at.ensures.spoken call.ensures.noted call.ensures.same call.ensures.seats
 
-pub returns-clause-counts : goal.returns-clause-counts
-returns-clause-counts g c =
-    counted c.args.caller (event.Started c.args.self.serial) (yard_roll c.args.yard.now) (yard_roll c.started.new.self) (returns-clause-makes g c).noted
-
 pub returns-clause-answers : goal.returns-clause-answers
 returns-clause-answers g c =
     answered c.args.caller (event.Started c.args.self.serial) _ c.made.result
@@ -43,7 +39,7 @@ pub returns-then-not-is_allowed-clause-in_turn : goal.returns-then-not-is_allowe
 returns-then-not-is_allowed-clause-in_turn g c = (λ ok. absurd (cc), λ at. let is = (c.speak_at.ensures.passes is_allowed refl).1 (subst (λ (i : ℕ). IsAt is_allowed c.args.self.serial c.args.yard.now i) (sym c.place.ensures) at) in cc)
 
 pub returns-clause-notes : goal.returns-clause-notes
-returns-clause-notes g c = λ _. (refl, (returns-clause-makes g c).noted)
+returns-clause-notes g c = (refl, (returns-clause-makes g c).noted, tt)
 
 pub returns-then-not-is_allowed-clause-notes : goal.returns-then-not-is_allowed-clause-notes
-returns-then-not-is_allowed-clause-notes g c = λ _. stays c.args.caller (yard_roll c.args.yard.now) (yard_roll c.speak_at.new.yard) c.speak_at.ensures.spoken.roll
+returns-then-not-is_allowed-clause-notes g c = stays c.args.caller (yard_roll c.args.yard.now) (yard_roll c.speak_at.new.yard) c.speak_at.ensures.spoken.roll

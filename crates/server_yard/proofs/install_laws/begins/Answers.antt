@@ -1,5 +1,0 @@
-use Rattle.std.proofs.Common.{refl}
-use Rattle.server_yard.proofs.install_laws.begins.Goals as goal
-
-pub returns : goal.returns
-returns c w rules names missing named = record { directory = refl; missing = missing; rules = named; reached = λ is_open. tt }

@@ -1,5 +1,0 @@
-use Rattle.server_yard.proofs.Leading.{arrives}
-use Rattle.server_yard.proofs.install_laws.leads_on.Goals as goal
-
-pub returns : goal.returns
-returns c s t d e result makes w at = arrives s t d e result makes w at
