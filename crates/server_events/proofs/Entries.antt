@@ -10,8 +10,7 @@ use Rattle.std.proofs.lemmas.List.Elements.{All-head, All-tail, All-cons}
 use Rattle.server_events.specs.declared.event.Stage.{Stage}
 use Rattle.server_events.specs.declared.state.Connection.{Connection}
 use Rattle.server_events.specs.Kept.{HasOwnSerial, IsUpTo}
-use Rattle.server_events.specs.ServerState.{stage_of, with_stage, without}
-use Rattle.server_events.specs.Worlds.{peer_of}
+use Rattle.server_events.specs.ServerState.{stage_of, with_stage, without, peer_of}
 
 -- the test by which a map finds the serial n
 pub finds_serial : (n k : ℕ) → is_at (nat_cmp n) k ≡ (k == n)

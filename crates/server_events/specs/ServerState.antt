@@ -244,3 +244,27 @@ pub data Happens : ServerState → Event → ServerState → Type 0 where
 pub data Runs : ServerState → List Event → ServerState → Type 0 where
   none : {w : ServerState} → Runs w [] w
   more : {u v w : ServerState} {e : Event} {es : List Event} → Happens u e v → Runs v es w → Runs u (e ∷ es) w
+
+-- the peer of the connection with this serial
+abbrev pub peer_of : ℕ → List Connection → Option Client
+peer_of n [] = None
+peer_of n (c ∷ cs) = if c.serial == n then Some c.peer else peer_of n cs
+
+abbrev pub of_connections : Effect → Bool
+of_connections (comes_to phase) = false
+of_connections (fails_at phase) = false
+of_connections ends_all = false
+of_connections _ = true
+
+-- an event of a connection
+abbrev pub is_connections : Event → Bool
+is_connections event = of_connections (effect event)
+
+abbrev pub of_installations : Effect → Bool
+of_installations (comes_to phase) = true
+of_installations (fails_at phase) = true
+of_installations _ = false
+
+-- an event of an installation; one that is killed within a call fails there
+abbrev pub is_installations : Event → Bool
+is_installations event = of_installations (effect event)

@@ -1,8 +1,7 @@
 //! The state that a list of events leads to.
 ghost use Rattle.std.specs.Prelude.{◌≡◌, length, option_copied, true, OnOk, OnErr};
 ghost use Rattle.std.specs.List.{count_by};
-ghost use Rattle.server_events.specs.Worlds.{peer_of};
-ghost use Rattle.server_events.specs.ServerState.{start, stage_of, with_stage, without, count_from, may_admit, after, is_retired};
+ghost use Rattle.server_events.specs.ServerState.{start, stage_of, with_stage, without, count_from, may_admit, after, is_retired, peer_of};
 
 use crate::addresses::AddressCounts;
 use crate::event::{Event, Stage};

@@ -4,8 +4,7 @@ use Rattle.std.proofs.lemmas.Slice.Eq.{bytes_eq-Decides}
 use Rattle.std.proofs.lemmas.Bool.{true≢false}
 use Rattle.child_jobs.specs.PlacesOut.{OneMoreAt, PlacesOut, live_at}
 use Rattle.rule_lookup.specs.Peers.{Client}
-use Rattle.server_events.specs.ServerState.{ServerState, count_from, stage_of, without}
-use Rattle.server_events.specs.Worlds.{peer_of}
+use Rattle.server_events.specs.ServerState.{ServerState, count_from, stage_of, without, peer_of}
 use Rattle.server_events.specs.declared.event.Stage.{Stage}
 use Rattle.server_yard.specs.Rooms.{events_left, spare_events}
 use Rattle.server_yard.proofs.Peopled.{count_from-without-some}

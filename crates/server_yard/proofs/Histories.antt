@@ -9,8 +9,7 @@ use Rattle.server_events.proofs.ReportSteps.{goes_on as told_on}
 use Rattle.rule_lookup.specs.Pairs.{Rule}
 use Rattle.server_events.specs.declared.event.Event.{Event}
 use Rattle.server_events.specs.declared.event.Stage.{Stage}
-use Rattle.server_events.specs.ServerState.{ServerState, after, is_legal, may_happen, stage_of, start, state_after, without}
-use Rattle.server_events.specs.Worlds.{peer_of}
+use Rattle.server_events.specs.ServerState.{ServerState, after, is_legal, may_happen, stage_of, start, state_after, without, peer_of}
 use Rattle.server_events.proofs.History.{is_legal-snoc, state_after-snoc}
 use Rattle.server_events.proofs.Limits.{limit_after, per_address_after}
 use Rattle.server_events.proofs.LiveLemmas.{tells}

@@ -9,9 +9,7 @@ use Rattle.server_events.specs.declared.event.Event.TheVariants.{Retired}
 use Rattle.server_events.specs.declared.event.Stage.{Stage}
 use Rattle.server_events.specs.declared.event.Stage.TheVariants as stage
 use Rattle.server_events.specs.declared.state.Connection.{Connection}
-use Rattle.server_events.specs.Processes.{of_installations, is_installations}
-use Rattle.server_events.specs.ServerState.{Effect, ServerState, lets_in, opens, decides, brings, lets_go, comes_to, fails_at, ends_all, after, count_from, effect, is_retired, may_happen, may_have, with_effect, with_stage, without}
-use Rattle.server_events.specs.Worlds.{peer_of}
+use Rattle.server_events.specs.ServerState.{Effect, ServerState, lets_in, opens, decides, brings, lets_go, comes_to, fails_at, ends_all, after, count_from, effect, is_retired, may_happen, may_have, with_effect, with_stage, without, is_installations, of_installations, peer_of}
 use Rattle.server_events.proofs.Effects.{Sound, sound}
 use Rattle.server_events.proofs.Limits.{count_from-cons, count_from-with_stage, length-with_stage, one_from}
 use Rattle.server_events.proofs.Peers.{peer_of-with_stage}

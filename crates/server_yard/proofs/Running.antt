@@ -4,8 +4,7 @@ use Rattle.std.specs.Prelude.{IfSome, map, min}
 use mathlib.Core.Logic.{∥∥₁_map}
 use Rattle.server_events.specs.Journals.{Books}
 use Rattle.server_events.specs.declared.journal.Noted.{Noted}
-use Rattle.server_events.specs.Processes.{is_connections}
-use Rattle.server_events.specs.ServerState.{ServerState, after, is_legal, may_happen, start, state_after}
+use Rattle.server_events.specs.ServerState.{ServerState, after, is_legal, may_happen, start, state_after, is_connections}
 use Rattle.server_events.specs.declared.event.Event.{Event}
 use Rattle.server_events.proofs.History.{is_legal-snoc, state_after-snoc}
 use Rattle.server_events.proofs.Limits.{limit_after, per_address_after}

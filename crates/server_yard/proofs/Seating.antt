@@ -10,8 +10,7 @@ use Rattle.rule_lookup.specs.Peers.{Client}
 use Rattle.server_events.specs.declared.event.Event.TheVariants.{Admitted}
 use Rattle.server_events.specs.declared.event.Stage.{Stage}
 use Rattle.server_events.specs.declared.state.Connection.{Connection}
-use Rattle.server_events.specs.ServerState.{ServerState, after, newcomer, stage_of, without}
-use Rattle.server_events.specs.Worlds.{peer_of}
+use Rattle.server_events.specs.ServerState.{ServerState, after, newcomer, stage_of, without, peer_of}
 use Rattle.server_events.proofs.Peers.{peer_of-push_other, peer_of-without_other, stage_of-peer_of}
 use Rattle.server_yard.specs.Seating.{GivesSeat, HasSeats, KeepsSeats, KeepsSerials, LosesOne}
 use Rattle.server_yard.specs.Rolls.{number_at, serial_at, stage_at}

@@ -2,8 +2,7 @@
 use Rattle.std.specs.Prelude.{◌≡◌, ◌-◌, ◌^◌, ⊤, true, List, [], ◌∷◌, length, map, min, IfSome}
 use Rattle.server_events.specs.Journals.{Books}
 use Rattle.server_events.specs.declared.journal.Noted.{Noted}
-use Rattle.server_events.specs.Processes.{is_connections}
-use Rattle.server_events.specs.ServerState.{ServerState, is_legal, start, state_after}
+use Rattle.server_events.specs.ServerState.{ServerState, is_legal, start, state_after, is_connections}
 use Rattle.server_events.specs.declared.event.Event.{Event}
 
 -- each event is one of a connection

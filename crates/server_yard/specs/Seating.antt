@@ -3,8 +3,7 @@ use Rattle.std.specs.Prelude.{◌≡◌, ◌<◌, ◌≤◌, ◌+◌, ◌-◌, �
 use Rattle.std.specs.FinMap as map
 use Rattle.child_jobs.specs.PlacesOut.{PlacesOut, is_used}
 use Rattle.rule_lookup.specs.Peers.{Client}
-use Rattle.server_events.specs.ServerState.{Effect, ServerState, opens, decides, brings, lets_go, count_from, effect, is_retired}
-use Rattle.server_events.specs.Worlds.{peer_of}
+use Rattle.server_events.specs.ServerState.{Effect, ServerState, opens, decides, brings, lets_go, count_from, effect, is_retired, peer_of}
 use Rattle.server_events.specs.declared.event.Event.{Event}
 use Rattle.server_yard.specs.Rolls.{Roll, serial_at}
 use Rattle.server_yard.specs.Rooms.{room_needed}

@@ -2,8 +2,7 @@
 //! makes none. The whole yard does, which also has the directory (`whole_yard`).
 ghost use Rattle.std.specs.Prelude.{◌≡◌, ◌++◌, ◌∷◌, [], true, OnOk, OnErr, option_map};
 ghost use Rattle.server_events.specs.Journals.{HasOneMore, HasSameRoom, without_last};
-ghost use Rattle.server_events.specs.Processes.{is_installations};
-ghost use Rattle.server_events.specs.ServerState.{may_happen};
+ghost use Rattle.server_events.specs.ServerState.{may_happen, is_installations};
 ghost use Rattle.server_yard.specs.Rolls.{IsQuiet, Notes};
 ghost use Rattle.server_yard.specs.Seating.{HasSpareRoom, KeepsSeats};
 

@@ -6,8 +6,7 @@ ghost use Rattle.std.specs.Ordering.{nat_cmp};
 ghost use Rattle.child_jobs.specs.Runs.{place_of};
 ghost use Rattle.child_jobs.specs.PlacesOut.{is_used, live_at, live_of, OneMoreAt, RefusesLimits, with_place};
 ghost use Rattle.server_events.specs.JournalParts.{books_of_journal, has_room};
-ghost use Rattle.server_events.specs.ServerState.{after, count_from, is_allowed, is_retired, may_admit, may_happen, stage_of};
-ghost use Rattle.server_events.specs.Worlds.{peer_of};
+ghost use Rattle.server_events.specs.ServerState.{after, count_from, is_allowed, is_retired, may_admit, may_happen, stage_of, peer_of};
 ghost use Rattle.server_events.specs.declared.event.Event.TheVariants.{Admitted, Decided, Opened, Retired, Started};
 ghost use Rattle.server_events.specs.declared.event.Stage.TheVariants as stage;
 ghost use Rattle.server_yard.specs.Leavings.{leaving_event, may_leave};
@@ -49,9 +48,8 @@ const EVENTS: usize = 5;
 /// no rules file stands.
 ///
 /// Each call that is an event is one event of the table (`noted`), and no call has a premise that the yard itself could
-/// lose. A place, a running child or a pass that a call takes has the yard's ledger, by its type. `serial_of`, `stage`
+/// lose. A place, a running child or a pass that a call takes has the yard's ledger, by its type. `stage_of`, `stage`
 /// and `is_peer` tell whether its event may happen. Nothing here waits for anybody, or calls a directory.
-#[derive(Drop)]
 pub struct Yard<L: Ledger> {
     pub(crate) state: State,
     table: PlaceTable<L>,
@@ -69,6 +67,25 @@ pub struct Yard<L: Ledger> {
     pub ghost per_address: { table.per_address ≡ state.per_address },
     pub ghost seated: { HasSeats (get nat_cmp seats) table state },
     pub ghost room: { has_room journal (room_needed state.connections) ≡ true },
+}
+
+// Written out, the drop of all that a yard has is proved here alone. A derived one is proved in each crate above that lets
+// a yard go, with those of all its parts.
+impl<L: Ledger> Drop for Yard<L> {
+    fn drop(self) {
+        let Yard {
+            state,
+            table,
+            seats,
+            journal,
+            speaker: _,
+            missing: _,
+        } = self;
+        drop(state);
+        drop(table);
+        drop(seats);
+        drop(journal);
+    }
 }
 
 impl<L: Ledger> Yard<L> {
@@ -169,14 +186,6 @@ impl<L: Ledger> Yard<L> {
         self.seats.get(&index).copied().unwrap_or(0)
     }
 
-    /// The serial of the connection that has a place, if it is alive.
-    pub fn serial_of(&self, place: &Place<L>) -> Option<u64>
-        ensures { result ≡ serial_of self.now place.now }
-    {
-        let (serial, _) = self.stage_of(place)?;
-        Some(serial)
-    }
-
     /// The serial and the stage of the connection that has a place, if it is alive. By this a caller tests what the
     /// calls that take a place require.
     pub fn stage_of(&self, place: &Place<L>) -> Option<(u64, Stage)>
@@ -223,7 +232,8 @@ impl<L: Ledger> Yard<L> {
         ensures refused { OnErr result (IsQuiet (yard_roll self.old) (yard_roll self.new)) }
         ensures room { KeepsRoom (yard_roll self.old) (yard_roll self.new) }
         ensures same { IsSameBeside self.old self.new }
-        ensures same_seats { OnErr result (KeepsSerials (yard_server self.old) (yard_seat self.old) (yard_seat self.new)) }
+        ensures same_seats { OnErr result
+            (KeepsSerials (yard_server self.old) (yard_seat self.old) (yard_seat self.new)) }
     {
         let serial = match self.next_serial(peer) {
             Ok(serial) => serial,
@@ -264,7 +274,8 @@ impl<L: Ledger> Yard<L> {
         ensures refused { OnErr result (IsQuiet (yard_roll self.old) (yard_roll self.new)) }
         ensures room { KeepsRoom (yard_roll self.old) (yard_roll self.new) }
         ensures same { IsSameBeside self.old self.new }
-        ensures same_seats { OnErr result (KeepsSerials (yard_server self.old) (yard_seat self.old) (yard_seat self.new)) }
+        ensures same_seats { OnErr result
+            (KeepsSerials (yard_server self.old) (yard_seat self.old) (yard_seat self.new)) }
     {
         let event = Event::Admitted {
             serial,
@@ -369,7 +380,8 @@ impl<L: Ledger> Yard<L> {
     /// Notes that a connection has gone so. Its place is free. It takes no memory.
     pub fn left(&mut self, place: Place<L>, leaving: Leaving)
         requires may { may_leave leaving (stage_of_place self.old place) ≡ true }
-        ensures noted { Notes (leaving_event leaving (number_of self.old place)) (yard_roll self.old) (yard_roll self.new) }
+        ensures noted { Notes
+            (leaving_event leaving (number_of self.old place)) (yard_roll self.old) (yard_roll self.new) }
         ensures room { KeepsRoom (yard_roll self.old) (yard_roll self.new) }
         ensures same { IsSameBeside self.old self.new }
         ensures seats { KeepsSeats (yard_seat self.old) (yard_seat self.new) }

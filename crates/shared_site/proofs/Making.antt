@@ -1,14 +1,14 @@
 -- What a turn makes of a yard, and what it leaves as it was.
-use Rattle.std.proofs.Common.{◌≡◌, ℕ, Bool, true, ap, refl, subst, ◌∙◌}
+use Rattle.std.proofs.Common.{◌≡◌, ℕ, Bool, false, true, ap, refl, subst, sym, ◌∙◌}
 use Rattle.std.specs.Prelude.{None, Option, Some}
 use Rattle.server_events.specs.Journals.{one_more}
-use Rattle.server_events.specs.ServerState.{is_started}
+use Rattle.server_events.specs.ServerState.{is_started, is_connections}
 use Rattle.server_events.specs.declared.event.Event.{Event}
 use Rattle.server_events.specs.declared.event.Stage.{Stage}
 use Rattle.server_events.specs.declared.event.Stage.TheVariants as stage
-use Rattle.server_events.specs.Processes.{is_connections}
 use Rattle.server_yard.specs.Leavings.{leaving_event}
 use Rattle.server_yard.specs.Rolls.{Notes, Roll, number_at, stage_at}
+use Rattle.server_yard.specs.Rooms.{KeepsRoom}
 use Rattle.server_yard.specs.Seating.{KeepsSeats}
 use Rattle.server_yard.specs.Yards.{IsSameBeside, stage_of_place, yard_roll, yard_seat}
 use Rattle.server_yard.specs.declared.leaving.Leaving.{Leaving}
@@ -43,14 +43,22 @@ beside_then old mid new spoken same = record {
   lists_same = same.lists_same ∙ spoken.lists_same;
 }
 
+-- who speaks needs no room
+pub room_then : (who : ℕ) (old mid new : Roll) → mid ≡ spoken_by who old → KeepsRoom mid new → KeepsRoom old new
+room_then who old mid new speaks room = subst (λ (r : Roll). KeepsRoom r new) speaks room
+
+pub room_stays : (who : ℕ) (old new : Roll) → new ≡ spoken_by who old → KeepsRoom old new
+room_stays who old new speaks = subst (λ (r : Roll). KeepsRoom old r) (sym speaks) (λ n. refl)
+
 -- in turn: the caller spoke, and the yard made its call
 pub made_by : {L : Type 0}
     (who : ℕ) (event : Event) (old mid new : Yard L)
     → IsPassedOver who old mid → Notes event (yard_roll mid) (yard_roll new)
-    → IsSameBeside mid new → KeepsSeats (yard_seat mid) (yard_seat new) → Makes who event true old new
-made_by who event old mid new spoken noted same seats = record {
+    → KeepsRoom (yard_roll mid) (yard_roll new) → IsSameBeside mid new → KeepsSeats (yard_seat mid) (yard_seat new) → Makes who event true old new
+made_by who event old mid new spoken noted room same seats = record {
   noted = notes_from event event (yard_roll mid) (spoken_by who (yard_roll old)) (yard_roll new) refl spoken.roll noted;
   out = tt;
+  room = room_then who (yard_roll old) (yard_roll mid) (yard_roll new) spoken.roll room;
   same = beside_then old mid new spoken.beside same;
   seats = λ i. seats i ∙ spoken.seats i;
 }
@@ -59,9 +67,19 @@ made_by who event old mid new spoken noted same seats = record {
 pub made_own : {L : Type 0}
     (who : ℕ) (event : ℕ → Event) (n serial : ℕ) (old mid new : Yard L)
     → n ≡ serial → IsPassedOver who old mid → Notes (event n) (yard_roll mid) (yard_roll new)
-    → IsSameBeside mid new → KeepsSeats (yard_seat mid) (yard_seat new) → Makes who (event serial) true old new
-made_own who event n serial old mid new own spoken noted same seats =
-    made_by who (event serial) old mid new spoken (subst (λ (m : ℕ). Notes (event m) (yard_roll mid) (yard_roll new)) own noted) same seats
+    → KeepsRoom (yard_roll mid) (yard_roll new) → IsSameBeside mid new → KeepsSeats (yard_seat mid) (yard_seat new) → Makes who (event serial) true old new
+made_own who event n serial old mid new own spoken noted room same seats =
+    made_by who (event serial) old mid new spoken (subst (λ (m : ℕ). Notes (event m) (yard_roll mid) (yard_roll new)) own noted) room same seats
+
+-- out of turn: the caller only spoke
+pub not_made : {L : Type 0} (who : ℕ) (event : Event) (old mid : Yard L) → IsPassedOver who old mid → Makes who event false old mid
+not_made who event old mid spoken = record {
+  noted = tt;
+  out = spoken;
+  room = room_stays who (yard_roll old) (yard_roll mid) spoken.roll;
+  same = spoken.beside;
+  seats = spoken.seats;
+}
 
 -- out of turn no event was noted
 pub stays : (who : ℕ) (old new : Roll) → new ≡ spoken_by who old → NotesAs who None old new
@@ -72,16 +90,6 @@ stays who old new spoken = record {
   counts = ap (λ (r : Roll). r.books.count) spoken;
   stores = ap (λ (r : Roll). r.books.notes) spoken;
 }
-
--- a connection stands at its place as before its caller spoke
-pub at_after : {L : Type 0}
-    (who : ℕ) (passes : Option Stage → Bool) (serial place : ℕ) (old mid : Yard L)
-    → IsPassedOver who old mid → IsAt passes serial old place → IsAt passes serial mid place
-at_after who passes serial place old mid spoken at =
-    let stays : stage_of_place mid place ≡ stage_of_place old place = λ i. stage_at (spoken.seats place i) ((spoken.roll i).server) in record {
-      has_serial = ap number_at (spoken.seats place) ∙ at.has_serial;
-      has_stage = ap passes stays ∙ at.has_stage;
-    }
 
 -- the events by which connections go are events of connections
 pub of_connections : (l : Leaving) (n : ℕ) → is_connections (leaving_event l n) ≡ true

@@ -3,15 +3,15 @@ use Rattle.std.specs.Prelude.{◌≡◌, ◌++◌, ◌∷◌, ℕ, Bool, true, L
 use Rattle.std.specs.Bool.{OnFalse, OnTrue}
 use Rattle.server_events.specs.Journals.{FitsSerial, one_more}
 use Rattle.rule_lookup.specs.Peers.{Client}
-use Rattle.server_events.specs.Processes.{is_connections}
-use Rattle.server_events.specs.ServerState.{stage_of}
-use Rattle.server_events.specs.Worlds.{peer_of}
+use Rattle.server_events.specs.ServerState.{stage_of, is_connections, peer_of}
 use Rattle.server_events.specs.declared.event.Event.{Event}
 use Rattle.server_events.specs.declared.event.Event.TheVariants.{Admitted, Opened}
 use Rattle.server_events.specs.declared.event.Stage.{Stage}
 use Rattle.server_events.specs.declared.event.Stage.TheVariants as stage
 use Rattle.server_yard.specs.Passes.{pass_file, pass_missing, pass_serial}
 use Rattle.server_yard.specs.Rolls.{IsQuiet, Notes, Roll}
+use Rattle.rule_lookup.specs.declared.decision.WhenMissing.{WhenMissing}
+use Rattle.server_yard.specs.Rooms.{KeepsRoom}
 use Rattle.server_yard.specs.Seating.{KeepsSeats}
 use Rattle.server_yard.specs.Yards.{IsSameBeside, number_of, stage_of_place, yard_books, yard_missing, yard_roll, yard_seat, yard_server}
 use Rattle.server_yard.specs.declared.pass.Pass.{Pass}
@@ -52,10 +52,11 @@ pub record IsPassedOver {L : Type 0} (who : ℕ) (old new : Yard L) : Type 0 whe
 
 -- A turn of a caller made this event, or it was out of turn and made none. An event that was made is noted as the
 -- caller's. Out of turn nothing changed but the speaker. In turn or not, the yard is the same beside its events, and so
--- are all seats.
+-- are all seats and the room beyond what its connections need.
 pub record Makes {L : Type 0} (who : ℕ) (event : Event) (was_made : Bool) (old new : Yard L) : Type 0 where
   pub noted : OnTrue was_made (NotesBy who event (yard_roll old) (yard_roll new))
   pub out : OnFalse was_made (IsPassedOver who old new)
+  pub room : KeepsRoom (yard_roll old) (yard_roll new)
   pub same : IsSameBeside old new
   pub seats : KeepsSeats (yard_seat old) (yard_seat new)
 
@@ -96,10 +97,11 @@ abbrev pub opened_by : {L F : Type 0} → (serial : ℕ) → Pass L F → Event
 opened_by serial pass = Opened serial (is_some (pass_file pass))
 
 -- the caller with this number opened the rules for a connection by a handle of the connection's own, which found this
--- file, by the next event after this many; or it was out of turn, and no event was made
-abbrev pub OpensBy : {L F : Type 0} → (serial : ℕ) → Option F → (who before : ℕ)
+-- file, by the next event after this many, and without a file this is decided; or it was out of turn, and no event was
+-- made
+abbrev pub OpensBy : {L F : Type 0} → (missing : WhenMissing) → (serial : ℕ) → Option F → (who before : ℕ)
     → Option (Pass L F × Made) → (after : ℕ) → Type 0
-OpensBy serial file who before answer after =
-    IfSome answer (λ r. (pass_serial r.0 ≡ serial) × (pass_file r.0 ≡ file)
+OpensBy missing serial file who before answer after =
+    IfSome answer (λ r. (pass_serial r.0 ≡ serial) × (pass_missing r.0 ≡ missing) × (pass_file r.0 ≡ file)
     × (receipt_of r.1 ≡ receipt_after before who (opened_by serial r.0)) × (after ≡ one_more before))
     × IfNone answer (after ≡ before)

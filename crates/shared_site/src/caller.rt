@@ -1,5 +1,7 @@
 //! The callers of a site, and the count of their events.
 ghost use Rattle.std.specs.Prelude.{◌≡◌, ◌+◌, ◌<◌, ℕ, None, Option};
+ghost use Rattle.rule_lookup.specs.declared.decision.WhenMissing.{WhenMissing};
+ghost use Rattle.rule_lookup.specs.declared.decision.WhenMissing.TheVariants.{Allow};
 
 use std::marker::Brand;
 use std::sync::ledger::{Ledger, Share};
@@ -12,12 +14,17 @@ pub trait Callers: Ledger {
 
     /// How many connections the server of the site is to let in, if there is such a number. A site makes no use of it.
     ghost admissions: { Option ℕ };
+
+    /// What the server of the site decides where no rules file stands. A site makes no use of it either.
+    ghost missing: { WhenMissing };
 }
 
 impl Callers for Brand {
     ghost before = { 0 };
 
     ghost admissions = { None };
+
+    ghost missing = { Allow };
 }
 
 /// A caller: a number from 1, under which a journal notes its events, and its share in the count of a site's events.
@@ -53,8 +60,9 @@ pub struct NewCallers<N: Callers> {
 impl<N: Callers> NewCallers<N> {
     ghost use Rattle.shared_site.specs.Callers.{caller_number, caller_share, new_count};
 
-    /// So many callers, each with a part of this share.
+    /// So many callers, each with a part of this share, which is that of all.
     pub fn of(share: Share<N>, count: u64) -> NewCallers<N>
+        requires all { share.parts ≡ N.parts }
         requires parts { share.parts ≡ count }
         requires idle { share.amount ≡ 0 }
         ensures { new_count result ≡ count }

@@ -1,4 +1,6 @@
 //! What a site stands on.
+ghost use Rattle.rule_lookup.specs.declared.decision.WhenMissing.{WhenMissing};
+
 use crate::caller::{Caller, Callers};
 use dir_calls::RulesFile;
 use server_yard::Yard;
@@ -15,6 +17,9 @@ pub trait Ground {
 
     /// A rules file that a connection has opened.
     type File: RulesFile + Drop;
+
+    /// What is decided where no rules file stands.
+    ghost missing: { WhenMissing };
 }
 
 /// The yard of a site.

@@ -15,6 +15,7 @@ ghost use Rattle.server_events.specs.declared.event.Stage.{Stage as StageOf};
 ghost use Rattle.server_yard.specs.Leavings.{leaving_event, may_leave};
 ghost use Rattle.server_yard.specs.Passes.{IsDecidedBy, pass_missing, pass_serial};
 ghost use Rattle.server_yard.specs.Rolls.{IsQuiet};
+ghost use Rattle.server_yard.specs.Rooms.{KeepsRoom};
 ghost use Rattle.server_yard.specs.Seating.{GivesSeat, KeepsSerials};
 ghost use Rattle.server_yard.specs.Yards.{HasRun, IsRunOf, IsSameBeside, yard_books, yard_missing, yard_roll, yard_seat, yard_server};
 ghost use Rattle.server_yard.specs.declared.yard.AdmitFault.TheVariants.{Full, FullForAddress, Spent};
@@ -44,6 +45,7 @@ struct Guarded<G: Ground> {
     ghost counted: { G.Callers.before + events.total ≡ (yard_books yard).count },
     // if the yard had no event before, its events are a run
     ghost ran: { G.Callers.before ≡ 0 → HasRun yard },
+    ghost missing: { yard_missing yard ≡ G.missing },
 }
 
 impl<G: Ground> Guarded<G> {
@@ -76,6 +78,7 @@ impl<G: Ground> Site<G> {
         requires name { blank.name ≡ G.Callers.name }
         requires parts { (blank.parts ≡ G.Callers.parts) × (blank.parts ≡ callers) }
         requires before { G.Callers.before ≡ (yard_books yard).count }
+        requires missing { yard_missing yard ≡ G.missing }
         ensures callers { new_count result.1 ≡ callers }
     {
         yard.unbegun();
@@ -97,8 +100,8 @@ impl<G: Ground> Site<G> {
     }
 
     /// The yard, for the share of all callers: none of them makes an event any more. Its history has as many events as
-    /// when the site was made, and those of the share. If it had no event before, there is a run that led to it, of which
-    /// `whole_yard::laws::whole_run` speaks: what its turns told, one after another.
+    /// when the site was made, and those of the share. If it had no event before, there is a run that led to it, of
+    /// which `whole_yard::laws::whole_run` speaks: what its turns told, one after another.
     pub fn close(self, all: Share<G::Callers>) -> YardOf<G>
         requires all { all.parts ≡ G.Callers.parts }
         ensures history { (yard_books result).count ≡ G.Callers.before + all.amount }
@@ -130,9 +133,11 @@ pub trait Turn<G: Ground> {
     /// Runs the turn on a yard, for the caller with this number.
     fn run(self, yard: &mut YardOf<G>, caller: u64) -> Self::Answer
         requires may { may self }
+        requires missing { yard_missing yard.old ≡ G.missing }
         ensures answers { answers self caller
             (yard_books yard.old).count result (yard_books yard.new).count }
         ensures notes { NotesAs caller (tells self result) (yard_roll yard.old) (yard_roll yard.new) }
+        ensures room { KeepsRoom (yard_roll yard.old) (yard_roll yard.new) }
         ensures same { IsSameBeside yard.old yard.new };
 }
 
@@ -186,6 +191,7 @@ impl<G: Ground> Turn<G> for Admit<'_> {
         ensures noted { IfOk result (λ r. NotesBy
             caller (event.Admitted r.0 self.entry.peer.now) (yard_roll yard.old) (yard_roll yard.new)) }
         ensures seat { IfOk result (λ r. GivesSeat r.1 r.0 (yard_seat yard.old) (yard_seat yard.new)) }
+        ensures room { KeepsRoom (yard_roll yard.old) (yard_roll yard.new) }
         ensures same { IsSameBeside yard.old yard.new }
         ensures refused { OnErr result (IsQuiet (spoken_by caller (yard_roll yard.old)) (yard_roll yard.new)) }
         ensures same_seats { OnErr result
@@ -222,12 +228,13 @@ impl<G: Ground> Turn<G> for Opened<G> {
 
     ghost may = { λ _. ⊤ };
 
-    ghost answers = { λ turn. OpensBy turn.serial turn.file };
+    ghost answers = { λ turn. OpensBy G.missing turn.serial turn.file };
 
     ghost tells = { λ turn. told_if_opened turn.serial (is_some turn.file) };
 
     fn run(self, yard: &mut YardOf<G>, caller: u64) -> Option<(Pass<G::Places, G::File>, Made)>
-        ensures answers { Answers (OpensBy self.serial self.file) caller result yard.old yard.new }
+        requires missing { yard_missing yard.old ≡ G.missing }
+        ensures answers { Answers (OpensBy G.missing self.serial self.file) caller result yard.old yard.new }
         ensures notes { NotesAs caller
             (told_if_opened self.serial (is_some self.file) result)
             (yard_roll yard.old) (yard_roll yard.new) }

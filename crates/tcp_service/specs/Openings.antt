@@ -25,13 +25,15 @@ pub record Opening : Type 0 where
 abbrev pub opening_of : {L F : Type 0} → (F → List ℕ) → Pass L F → Opening
 opening_of bytes pass = record { bytes = pass_bytes bytes pass; missing = pass_missing pass }
 
--- a new handle of the rules was opened for the connection with this serial, and this stood there
-pub record IsFoundFor {H : Type 0} (gives : H → Type 0) (opened : H → ℕ → Option (List ℕ) → H → Type 0) (serial : ℕ)
-    (found : Opening) : Type 0 where
+-- a new handle of the rules was opened for the connection with this serial, and this stood there; without a file this is
+-- decided
+pub record IsFoundFor {H : Type 0} (gives : H → Type 0) (opened : H → ℕ → Option (List ℕ) → H → Type 0)
+    (missing : WhenMissing) (serial : ℕ) (found : Opening) : Type 0 where
   pub handle : H
   pub new : gives handle
   pub after : H
   pub stood : opened handle serial found.bytes after
+  pub without : found.missing ≡ missing
 
 -- what it decides of a peer: by the first lookup form that the file has
 abbrev pub decides : Opening → Client → Result Decision DecideFault

@@ -1,7 +1,6 @@
 //! What a server stands on, and how its connections open the rules, each by a handle of its own.
 ghost use Rattle.std.specs.Prelude.{ℕ, List, Option, IfOk};
 ghost use Rattle.std.specs.Option.{option_map};
-ghost use Rattle.rule_lookup.specs.declared.decision.WhenMissing.{WhenMissing};
 
 use child_jobs::Job;
 use dir_calls::{DirFault, RulesFile};
@@ -49,9 +48,6 @@ pub trait Host: ServiceGround {
 pub trait Rules<F: RulesFile + Drop> {
     /// What one connection opens them by.
     type Handle: RulesHandle<F> + Drop;
-
-    /// What is decided where no rules file stands.
-    ghost missing: { Self → WhenMissing };
 
     /// Whether a handle is a new one of these rules.
     ghost gives: { Self → Self.Handle → Type 0 };

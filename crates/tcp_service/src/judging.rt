@@ -63,8 +63,8 @@ impl<G: ServiceGround> Context<'_, G> {
         requires greeted { greeted.banner.now ≡ self.now.plan.now.banner }
         requires new { G.Rules.gives self.now.rules.now handle.old }
         ensures its { IfOk result (λ pass. pass_serial pass ≡ serial) }
-        ensures found { IfOk result (λ pass.
-            IsFoundFor (G.Rules.gives self.now.rules.now) G.Handle.opened serial (opening_of G.File.bytes pass)) }
+        ensures found { IfOk result (λ pass. IsFoundFor (G.Rules.gives self.now.rules.now)
+            G.Handle.opened G.missing serial (opening_of G.File.bytes pass)) }
         ensures given_up { IfErr result (GivesUp (λ _. ⊥) []) }
     {
         match handle.open(self.alloc, serial) {
@@ -86,11 +86,12 @@ impl<G: ServiceGround> Context<'_, G> {
     ) -> Result<Judged, DropCause>
         requires greeted { greeted.banner.now ≡ self.now.plan.now.banner }
         requires new { G.Rules.gives self.now.rules.now handle.old }
-        ensures judged { IfOk result (λ judged. IsDecided (IsFoundFor (G.Rules.gives self.now.rules.now) G.Handle.opened)
+        ensures judged { IfOk result (λ judged. IsDecided
+            (IsFoundFor (G.Rules.gives self.now.rules.now) G.Handle.opened G.missing)
             G.File.honest G.File.sound serial peer.now local.now self.now.plan.now
             (noted_event judged.noted) judged.verdict judged.environment) }
         ensures given_up { IfErr result (GivesUp
-            (FailsFor (IsFoundFor (G.Rules.gives self.now.rules.now) G.Handle.opened serial)
+            (FailsFor (IsFoundFor (G.Rules.gives self.now.rules.now) G.Handle.opened G.missing serial)
             G.File.honest G.File.sound peer.now) []) }
     {
         let pass = self.open(greeted, handle, serial)?;
@@ -133,11 +134,12 @@ impl<G: ServiceGround> Context<'_, G> {
         local: &Local,
     ) -> Result<Judged, GivenUp>
         requires greeted { greeted.banner.now ≡ self.now.plan.now.banner }
-        ensures judged { IfOk result (λ judged. IsDecided (IsFoundFor (G.Rules.gives self.now.rules.now) G.Handle.opened)
+        ensures judged { IfOk result (λ judged. IsDecided
+            (IsFoundFor (G.Rules.gives self.now.rules.now) G.Handle.opened G.missing)
             G.File.honest G.File.sound serial peer.now local.now self.now.plan.now
             (noted_event judged.noted) judged.verdict judged.environment) }
         ensures given_up { IfErr result (λ up. GivesUp
-            (FailsFor (IsFoundFor (G.Rules.gives self.now.rules.now) G.Handle.opened serial)
+            (FailsFor (IsFoundFor (G.Rules.gives self.now.rules.now) G.Handle.opened G.missing serial)
             G.File.honest G.File.sound peer.now) [] up.cause) }
     {
         let Ok(mut handle) = self.rules.handle(self.alloc) else {

@@ -134,18 +134,18 @@ impl<H: Host> Server<'_, H> {
         connection: &H::Connection,
         judged: Judged,
     ) -> Result<Started<H>, Over>
-        requires allowed { IsDecided (IsFoundFor (H.Rules.gives self.now.context.rules.now) H.Handle.opened)
+        requires allowed { IsDecided (IsFoundFor (H.Rules.gives self.now.context.rules.now) H.Handle.opened H.missing)
             H.File.honest H.File.sound serial peer.now local.now self.now.context.plan.now
             (noted_event judged.noted) Allow judged.environment }
         ensures own { IfOk result (λ r. place_of r.0 ≡ place) }
         ensures told { IfOk result (λ r. begun_last r.1 ≡ event.Started serial) }
         ensures child { IfOk result (λ r. IsChild
-            (IsFoundFor (H.Rules.gives self.now.context.rules.now) H.Handle.opened) H.File.honest H.File.sound
+            (IsFoundFor (H.Rules.gives self.now.context.rules.now) H.Handle.opened H.missing) H.File.honest H.File.sound
             serial peer.now local.now self.now.context.plan.now (begun_decided r.1)
             (H.Job.program (job_of r.0)) (H.Job.environment (job_of r.0))) }
         ensures over { IfErr result (λ over. over.serial ≡ serial) }
         ensures reason { IfErr result (λ over. EndsFor
-            (IsFoundFor (H.Rules.gives self.now.context.rules.now) H.Handle.opened) H.File.honest H.File.sound
+            (IsFoundFor (H.Rules.gives self.now.context.rules.now) H.Handle.opened H.missing) H.File.honest H.File.sound
             serial peer.now local.now self.now.context.plan.now
             (H.Starter.refuses self.now.starter.now connection.now) (over_decided over) (over_end over)) }
         ensures noted { IfErr result (λ over. over_decided over ≡ Some (noted_event judged.noted)) }
@@ -200,12 +200,12 @@ impl<H: Host> Server<'_, H> {
         ensures told { IfOk result (λ r. begun_last r.1 ≡ event.Started serial) }
         // the decided program, with the decided environment
         ensures child { IfOk result (λ r. IsChild
-            (IsFoundFor (H.Rules.gives self.now.context.rules.now) H.Handle.opened) H.File.honest H.File.sound
+            (IsFoundFor (H.Rules.gives self.now.context.rules.now) H.Handle.opened H.missing) H.File.honest H.File.sound
             serial peer.now local.now self.now.context.plan.now (begun_decided r.1)
             (H.Job.program (job_of r.0)) (H.Job.environment (job_of r.0))) }
         ensures over { IfErr result (λ over. over.serial ≡ serial) }
         ensures reason { IfErr result (λ over. EndsFor
-            (IsFoundFor (H.Rules.gives self.now.context.rules.now) H.Handle.opened) H.File.honest H.File.sound
+            (IsFoundFor (H.Rules.gives self.now.context.rules.now) H.Handle.opened H.missing) H.File.honest H.File.sound
             serial peer.now local.now self.now.context.plan.now
             (H.Starter.refuses self.now.starter.now connection.now) (over_decided over) (over_end over)) }
         // only the banner is written

@@ -40,7 +40,7 @@ pub struct Server<'a, H: Host> {
     pub starter: &'a H::Starter,
     /// What is done for all of them.
     pub service: &'a Service,
-    pub ghost may: { MayStartEach (IsFoundFor (H.Rules.gives context.rules.now) H.Handle.opened)
+    pub ghost may: { MayStartEach (IsFoundFor (H.Rules.gives context.rules.now) H.Handle.opened H.missing)
         H.File.honest H.File.sound context.plan.now (H.Starter.may starter.now) },
 }
 

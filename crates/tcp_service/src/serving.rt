@@ -89,12 +89,12 @@ where
         ensures own { IfOk result (λ alive. alive.serial ≡ admitted.serial) }
         ensures place { IfOk result (λ alive. place_of alive.running ≡ admitted.place) }
         ensures child { IfOk result (λ alive. IsDecidedChild
-            (IsFoundFor (H.Rules.gives self.now.context.rules.now) H.Handle.opened) H.File.honest H.File.sound
+            (IsFoundFor (H.Rules.gives self.now.context.rules.now) H.Handle.opened H.missing) H.File.honest H.File.sound
             admitted.serial admitted.peer admitted.local self.now.context.plan.now
             (H.Job.program (job_of alive.running)) (H.Job.environment (job_of alive.running))) }
         ensures over { IfErr result (λ over. over.serial ≡ admitted.serial) }
         ensures reason { IfErr result (λ over. EndsFor
-            (IsFoundFor (H.Rules.gives self.now.context.rules.now) H.Handle.opened) H.File.honest H.File.sound
+            (IsFoundFor (H.Rules.gives self.now.context.rules.now) H.Handle.opened H.missing) H.File.honest H.File.sound
             admitted.serial admitted.peer admitted.local self.now.context.plan.now
             (H.Starter.refuses self.now.starter.now admitted.connection) (over_decided over) (over_end over)) }
     {

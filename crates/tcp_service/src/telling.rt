@@ -3,7 +3,7 @@
 ghost use Rattle.std.specs.Prelude.{◌≡◌, ◌≢◌, IfErr, IfOk, OnErr};
 ghost use Rattle.child_jobs.specs.declared.outcome.DropCause.TheVariants.{Denied, Directory};
 ghost use Rattle.server_events.specs.declared.event.Event.TheVariants as event;
-ghost use Rattle.server_yard.specs.Passes.{pass_file, pass_serial};
+ghost use Rattle.server_yard.specs.Passes.{pass_file, pass_missing, pass_serial};
 ghost use Rattle.shared_site.specs.Receipts.{made_event};
 ghost use Rattle.tcp_service.specs.Lives.{IsAnswer, asked};
 ghost use Rattle.tcp_service.specs.Openings.{Decides, opening_of};
@@ -85,6 +85,7 @@ impl<G: ServiceGround> Context<'_, G> {
     ) -> Result<Pass<G::Places, G::File>, DropCause>
         requires greeted { greeted.banner.now ≡ self.now.plan.now.banner }
         ensures its { IfOk result (λ pass. pass_serial pass ≡ serial) }
+        ensures missing { IfOk result (λ pass. pass_missing pass ≡ G.missing) }
         ensures file { IfOk result (λ pass. pass_file pass ≡ file) }
         ensures cause { IfErr result (λ why. why ≡ Directory) }
     {

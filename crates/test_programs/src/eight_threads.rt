@@ -1,5 +1,6 @@
 //! Eight callers in threads of their own, who share four places.
 ghost use Rattle.std.specs.Prelude.{◌≡◌, false};
+ghost use Rattle.rule_lookup.specs.declared.decision.WhenMissing.TheVariants.{Deny};
 ghost use Rattle.shared_site.specs.Callers.{new_count};
 
 use crate::calls::{At, Worker};
@@ -181,6 +182,7 @@ fn eight<
 >(rt: &R, places: Blank, parts: Blank) -> Option<Report>
     requires places { (places.name ≡ L.name) × (places.parts ≡ L.parts) × (places.parts ≡ LIMIT) }
     requires met { L.met ≡ false }
+    requires missing { L.missing ≡ Deny }
     requires parts { (parts.name ≡ N.name) × (parts.parts ≡ N.parts) × (parts.parts ≡ CALLERS) }
     requires callers { N.before ≡ 0 }
 {

@@ -1,7 +1,9 @@
 //! Sites over a directory in memory, from the start to the audit.
 ghost use Rattle.std.specs.Prelude.{◌≡◌, false, IfSome, OnOk};
 ghost use Rattle.server_events.specs.JournalParts.{books_of_journal};
+ghost use Rattle.headline.specs.Worlds.{missing_by};
 ghost use Rattle.shared_site.specs.Callers.{new_count};
+ghost use Rattle.whole_yard.specs.Kept.{rules_of};
 ghost use Rattle.whole_yard.specs.Closings.{IsWhole};
 
 use crate::receipts::Receipts;
@@ -34,6 +36,7 @@ pub(crate) fn new_site<L: Assumptions, N: Callers>(
 ) -> Option<(MemSite<L, N>, NewCallers<N>)>
     requires places { (places.name ≡ L.name) × (places.parts ≡ L.parts) × (places.parts ≡ limit) }
     requires met { L.met ≡ false }
+    requires missing { missing_by (rules_of rules) ≡ L.missing }
     requires parts { (parts.name ≡ N.name) × (parts.parts ≡ N.parts) × (parts.parts ≡ callers) }
     requires callers { N.before ≡ 0 }
     ensures { IfSome result (λ made. new_count made.1 ≡ callers) }
@@ -56,7 +59,13 @@ pub(crate) fn close<L: Assumptions, N: Callers>(
 {
     match close_and_audit(site, callers, &receipts.list) {
         Ok((yard, audited)) => {
-            let report = report_of(alloc, yard.journal(), audited, receipts, limit);
+            let report = report_of(
+                alloc,
+                yard.connections().journal(),
+                audited,
+                receipts,
+                limit,
+            );
             drop(yard);
             report
         }

@@ -1,7 +1,7 @@
 //! The rules of a server in their folder, which each connection opens for itself.
 ghost use Rattle.std.specs.Prelude.{◌≡◌, option_copied};
 ghost use Rattle.dir_disk.specs.OsParts.{os_disk, os_state, system_folder};
-ghost use Rattle.server_parts.specs.RulesPaths.{IsFolderOfPath, rules_missing, rules_name, rules_path};
+ghost use Rattle.server_parts.specs.RulesPaths.{IsFolderOfPath, rules_name, rules_path};
 ghost use Rattle.ucspi.specs.Opened.{IsThere};
 
 use dir_calls::{Dir, DirFault, Name};
@@ -18,8 +18,6 @@ pub(crate) struct FolderRules<'a, R>(pub &'a RulesPath<'a, R>);
 
 impl<'a, R: Files<File = File>> Rules<RulesOnDisk> for FolderRules<'a, R> {
     type Handle = FolderHandle<'a, SystemDisk<&'a R, NoWait>>;
-
-    ghost missing = { λ rules. rules_missing rules.0.now };
 
     ghost gives = { λ rules handle. (option_copied handle.name ≡ rules_name rules.0.now)
         × IsFolderOfPath (rules_path rules.0.now) (system_folder (os_disk handle.dir)) };

@@ -63,8 +63,7 @@ pub(crate) struct Closed<H: Host> {
 ///
 /// Of the two callers of the site, with a part each of `parts`, one lets connections in and makes no other events; the
 /// other makes all others. `plan` is what each connection is served by. `starter` is asked for nothing but the plan's
-/// program, with the variables of a decision to allow. Each connection opens `rules` for itself, and the
-/// yard decides as they say where no file stands.
+/// program, with the variables of a decision to allow. Each connection opens `rules` for itself.
 /// Once no more connections are let in, the acceptor is dropped.
 ///
 /// # Errors
@@ -97,8 +96,8 @@ where
     requires parts { (parts.name ≡ H.Callers.name) × (parts.parts ≡ H.Callers.parts) × (parts.parts ≡ CALLERS) }
     requires new { (H.Callers.before ≡ 0) × ((yard_books yard).count ≡ 0) }
     requires count { H.Callers.admissions ≡ service.now.limits.count }
-    requires missing { yard_missing yard ≡ H.Rules.missing rules.now }
-    requires may { MayStartEach (IsFoundFor (H.Rules.gives rules.now) H.Handle.opened)
+    requires missing { yard_missing yard ≡ H.missing }
+    requires may { MayStartEach (IsFoundFor (H.Rules.gives rules.now) H.Handle.opened H.missing)
         H.File.honest H.File.sound plan.now (H.Starter.may starter.now) }
 {
     let live = yard.live();
@@ -138,6 +137,7 @@ where
 fn site_of<H: Host>(parts: Blank, yard: YardOf<H>) -> (Site<H>, CallerOf<H>, CallerOf<H>)
     requires parts { (parts.name ≡ H.Callers.name) × (parts.parts ≡ H.Callers.parts) × (parts.parts ≡ CALLERS) }
     requires new { (H.Callers.before ≡ 0) × ((yard_books yard).count ≡ 0) }
+    requires missing { yard_missing yard ≡ H.missing }
     ensures { caller_share result.1 ≡ 0 }
 {
     let (site, mut callers) = Site::<H>::new(parts, yard, CALLERS);

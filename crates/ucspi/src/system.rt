@@ -120,6 +120,8 @@ impl<'a, P: System, L: Ledger + Send + Sync, N: Callers + Send + Sync> Ground
     type Callers = N;
 
     type File = RulesOnDisk;
+
+    ghost missing = { N.missing };
 }
 
 impl<'a, P: System, L: Ledger + Send + Sync, N: Callers + Send + Sync> ServiceGround

@@ -249,6 +249,7 @@ fn run_site<'a, L: Ledger + Send + Sync, N: Callers + Send + Sync, P: System + S
         × (places.parts ≡ words.now.limits.connections) }
     requires parts { (parts.name ≡ N.name) × (parts.parts ≡ N.parts) × (parts.parts ≡ CALLERS) }
     requires callers { (N.before ≡ 0) × (N.admissions ≡ server.now.service.limits.count) }
+    requires missing { N.missing ≡ rules_missing rules.now }
     requires asked { AreAsked words.now server.now.plan server.now.service server.now.passing }
     requires rules { AreRulesOf words.now rules.now }
     requires accepts { AcceptsAsAsked P.listens words.now acceptor }

@@ -9,11 +9,11 @@ use Rattle.rules_install.specs.Steps.{Goes, IsOfDevice}
 use Rattle.dir_calls.specs.declared.phase.Phase.{Phase}
 use Rattle.rules_install.specs.declared.fault.InstallFault.{InstallFault}
 use Rattle.rules_install.specs.declared.fault.InstallFault.TheVariants.{Line, TooLarge, Disk, Over, OutOfMemory}
-use Rattle.server_events.specs.Steps.{Legal, none, more}
-use Rattle.server_events.specs.Worlds.{World}
+use Rattle.headline.specs.Steps.{Legal, none, more}
+use Rattle.headline.specs.Worlds.{World}
 use Rattle.server_events.specs.declared.event.Event.{Event}
 use Rattle.server_events.specs.declared.event.Event.TheVariants.{Stepped}
-use Rattle.server_events.proofs.InstalledRuns.{legal_then}
+use Rattle.headline.proofs.InstalledRuns.{legal_then}
 use Rattle.whole_yard.specs.Series.{LeadsAlong, stepped_to}
 use Rattle.whole_yard.specs.UnderWay.{IsUnderWay, StepLeads}
 use Rattle.whole_yard.proofs.Leading.{arrives}

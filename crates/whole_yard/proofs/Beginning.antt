@@ -12,7 +12,7 @@ use Rattle.dir_calls.specs.declared.phase.Phase.TheVariants.{Fresh}
 use Rattle.rules_install.specs.declared.fault.InstallFault.{InstallFault}
 use Rattle.rules_install.specs.declared.fault.InstallFault.TheVariants.{Line, TooLarge, Disk, Over, OutOfMemory}
 use Rattle.server_events.specs.ServerState.{ServerState}
-use Rattle.server_events.specs.Worlds.{RulesName}
+use Rattle.headline.specs.Worlds.{RulesName}
 use Rattle.server_events.specs.declared.event.Event.TheVariants.{StepFailed}
 use Rattle.whole_yard.specs.Installed.{KeepsHistory}
 use Rattle.server_yard.specs.Rolls.{IsQuiet, NotesSome, Roll}

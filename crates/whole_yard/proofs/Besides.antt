@@ -1,15 +1,15 @@
 -- A server's calls, over the directory as others left it, are its steps by itself.
 use Rattle.std.proofs.Common.{◌≡◌, true, List, Option, None, refl, sym, ap, subst, ◌∙◌}
 use Rattle.dir_calls.specs.declared.phase.Phase.{Phase}
-use Rattle.server_events.specs.Processes.{of_connections, is_connections, of_server}
-use Rattle.server_events.specs.ServerState.{Effect, ServerState, lets_in, opens, decides, brings, lets_go, comes_to, fails_at, ends_all, effect}
-use Rattle.server_events.specs.Steps.{MovesBy, Step}
-use Rattle.server_events.specs.Worlds.{KeptFile, World}
+use Rattle.headline.specs.Processes.{of_server}
+use Rattle.server_events.specs.ServerState.{Effect, ServerState, lets_in, opens, decides, brings, lets_go, comes_to, fails_at, ends_all, effect, is_connections, of_connections}
+use Rattle.headline.specs.Steps.{MovesBy, Step}
+use Rattle.headline.specs.Worlds.{KeptFile, World}
 use Rattle.server_events.specs.declared.event.Event.{Event}
 use Rattle.server_events.proofs.Effects.{step_is}
 use Rattle.whole_yard.specs.Serving.{IsServers, StepsByItself, over}
 use Rattle.whole_yard.specs.Standing.{Leads, Matches, YardState}
-use Rattle.server_events.proofs.WovenSteps.{phase_stays}
+use Rattle.headline.proofs.WovenSteps.{phase_stays}
 
 -- an event of a connection changes the server and what is kept, and nothing else
 plainly : (u v : World) → v ≡ record u { server = v.server } → v ≡ record u { server = v.server; kept = v.kept }

@@ -15,8 +15,8 @@ use Rattle.dir_calls.specs.declared.phase.Phase.TheVariants.{Fresh, Filling, Syn
 use Rattle.rules_install.specs.declared.fault.InstallFault.{InstallFault}
 use Rattle.rules_install.specs.declared.fault.InstallFault.TheVariants.{Line, TooLarge, Disk, Over, OutOfMemory}
 use Rattle.server_events.specs.ServerState.{ServerState, after, phase_after}
-use Rattle.server_events.specs.Steps.{Advances}
-use Rattle.server_events.specs.Worlds.{RulesName, World}
+use Rattle.headline.specs.Steps.{Advances}
+use Rattle.headline.specs.Worlds.{RulesName, World}
 use Rattle.server_events.specs.declared.event.Event.{Event}
 use Rattle.server_events.specs.declared.event.Event.TheVariants.{Stepped, StepFailed}
 use Rattle.whole_yard.specs.Installed.{KeepsHistory}

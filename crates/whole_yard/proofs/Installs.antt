@@ -6,15 +6,14 @@ use Rattle.dir_calls.specs.Directory.{Directory}
 use Rattle.rule_lookup.specs.Pairs.{Rule}
 use Rattle.rules_install.specs.Installing.{Installing}
 use Rattle.dir_calls.specs.declared.phase.Phase.{Phase}
-use Rattle.server_events.specs.Headline.{Reaches}
-use Rattle.server_events.specs.ServerState.{ServerState, after, start}
-use Rattle.server_events.specs.Steps.{Legal, none, more}
-use Rattle.server_events.specs.Worlds.{Accepted, RulesName, World}
+use Rattle.headline.specs.Headline.{Reaches}
+use Rattle.server_events.specs.ServerState.{ServerState, after, start, is_installations}
+use Rattle.headline.specs.Steps.{Legal, none, more}
+use Rattle.headline.specs.Worlds.{Accepted, RulesName, World}
 use Rattle.server_events.specs.declared.event.Event.{Event}
 use Rattle.server_events.specs.declared.event.Event.TheVariants.{Stepped, StepFailed}
-use Rattle.server_events.proofs.InstalledRuns.{legal_then}
+use Rattle.headline.proofs.InstalledRuns.{legal_then}
 use Rattle.whole_yard.specs.Installed.{IsInstalledBy, installs_of}
-use Rattle.server_events.specs.Processes.{is_installations}
 use Rattle.whole_yard.specs.Standing.{Begins, HasUnderWay, YardState}
 use Rattle.whole_yard.proofs.Stepped.{GoesOn}
 

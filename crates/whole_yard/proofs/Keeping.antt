@@ -7,11 +7,10 @@ use Rattle.dir_calls.specs.Directory.{Directory, content}
 use Rattle.server_events.specs.Journals.{Books, FitsSerial}
 use Rattle.rule_lookup.specs.Pairs.{Rule}
 use Rattle.rule_lookup.specs.Lookups.{WhereKnown}
-use Rattle.server_events.specs.Processes.{of_connections, of_installations, is_connections, is_installations}
-use Rattle.server_events.specs.ServerState.{Effect, ServerState, lets_in, opens, decides, brings, lets_go, comes_to, fails_at, ends_all, effect}
-use Rattle.server_events.specs.Worlds.{RulesName, StandsFor}
+use Rattle.server_events.specs.ServerState.{Effect, ServerState, lets_in, opens, decides, brings, lets_go, comes_to, fails_at, ends_all, effect, is_connections, is_installations, of_connections, of_installations}
+use Rattle.headline.specs.Worlds.{RulesName, StandsFor}
 use Rattle.server_events.specs.declared.event.Event.{Event}
-use Rattle.server_events.proofs.WholeText.{reached_whole}
+use Rattle.headline.proofs.WholeText.{reached_whole}
 use Rattle.whole_yard.specs.Installed.{KeepsHistory, IsWholeFile, installs_of}
 use Rattle.server_yard.specs.Passes.{trust_in}
 use Rattle.server_yard.specs.Rolls.{Notes, Roll}
@@ -23,7 +22,7 @@ use Rattle.whole_yard.specs.WholeYards.{IsSameBesides, whole_roll, whole_state}
 use Rattle.whole_yard.specs.declared.yard.WholeYard.{WholeYard}
 use Rattle.server_yard.proofs.Histories.{OneMore, history_on, history_same}
 use Rattle.whole_yard.proofs.Installs.{installed_same, installs-other, reached_by}
-use Rattle.server_events.proofs.WovenSteps.{phase_stays}
+use Rattle.headline.proofs.WovenSteps.{phase_stays}
 
 other_by : (x : Effect) → of_connections x ≡ true → of_installations x ≡ false
 other_by (lets_in m peer) k = refl

@@ -15,8 +15,8 @@ use Rattle.rules_install.specs.declared.fault.InstallFault.{InstallFault}
 use Rattle.rules_install.specs.declared.fault.InstallFault.TheVariants.{Line, TooLarge, Disk, Over, OutOfMemory}
 use Rattle.rules_install.proofs.StepFits.{filled_has, synced_next}
 use Rattle.server_events.specs.ServerState.{after as after_event, Follows, stepped, failed}
-use Rattle.server_events.specs.Steps.{IsCallTo, IsWhole, Step}
-use Rattle.server_events.specs.Worlds.{RulesName, UnderWay, World}
+use Rattle.headline.specs.Steps.{IsCallTo, IsWhole, Step}
+use Rattle.headline.specs.Worlds.{RulesName, UnderWay, World}
 use Rattle.server_events.specs.declared.event.Event.TheVariants.{Stepped, StepFailed}
 use Rattle.rules_install.specs.Series.{MakesStep, MayStepFrom}
 use Rattle.whole_yard.specs.UnderWay.{Arrives, HasReached, IsAsFar, IsUnderWay, as_under_way, rules_named}

@@ -7,14 +7,13 @@ use Rattle.rule_lookup.specs.Decisions.{decision_from}
 use Rattle.rule_lookup.specs.Peers.{Client}
 use Rattle.rule_lookup.specs.declared.decision.Decision.{Decision}
 use Rattle.rules_install.specs.Installing.{Installing}
-use Rattle.server_events.specs.Processes.{is_connections, of_connections}
-use Rattle.server_events.specs.ServerState.{Effect, ServerState, lets_in, opens, decides, brings, lets_go, comes_to, fails_at, ends_all, after, effect, may_happen, with_effect}
-use Rattle.server_events.specs.Steps.{MovesBy, Step}
-use Rattle.server_events.specs.Worlds.{KeptFile, RulesName, World, kept_by, missing_by, peer_of, standing}
+use Rattle.server_events.specs.ServerState.{Effect, ServerState, lets_in, opens, decides, brings, lets_go, comes_to, fails_at, ends_all, after, effect, may_happen, with_effect, is_connections, of_connections, peer_of}
+use Rattle.headline.specs.Steps.{MovesBy, Step}
+use Rattle.headline.specs.Worlds.{KeptFile, RulesName, World, kept_by, missing_by, standing}
 use Rattle.server_events.specs.declared.event.Event.{Event}
 use Rattle.server_events.specs.declared.event.Event.TheVariants.{Opened, Decided}
 use Rattle.server_events.proofs.Effects.{is_step}
-use Rattle.server_events.proofs.WovenSteps.{phase_stays}
+use Rattle.headline.proofs.WovenSteps.{phase_stays}
 use Rattle.server_yard.specs.Rolls.{Notes, Roll}
 use Rattle.whole_yard.specs.Serving.{is_plain, plain_by, with_roll}
 use Rattle.whole_yard.specs.Standing.{HasUnderWay, LeadsDecided, LeadsOn, LeadsOpened, Matches, YardState, standing_of}

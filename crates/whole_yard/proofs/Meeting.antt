@@ -8,9 +8,9 @@ use Rattle.rules_install.specs.Installing.{Installing, next_of, next_phase}
 use Rattle.rules_install.specs.Steps.{IsCallOf}
 use Rattle.dir_calls.specs.declared.phase.Phase.{Phase}
 use Rattle.dir_calls.specs.declared.phase.Phase.TheVariants.{Fresh, Filling, Synced, Named, Done}
-use Rattle.server_events.specs.Steps.{IsCallTo, IsScratchName}
+use Rattle.headline.specs.Steps.{IsCallTo, IsScratchName}
 use Rattle.server_events.specs.ServerState.{Follows, fresh, filling, filling_on, synced, named, done}
-use Rattle.server_events.specs.Worlds.{RulesName, UnderWay, World}
+use Rattle.headline.specs.Worlds.{RulesName, UnderWay, World}
 use Rattle.rules_install.specs.Series.{MayStepFrom}
 use Rattle.whole_yard.specs.UnderWay.{HasReached, IsUnderWay, rules_named}
 

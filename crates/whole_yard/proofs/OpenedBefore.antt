@@ -9,17 +9,17 @@ use Rattle.server_events.specs.declared.event.Stage.TheVariants as stage
 use Rattle.server_events.specs.declared.event.Event.{Event}
 use Rattle.server_events.specs.declared.event.Event.TheVariants.{Opened}
 use Rattle.server_events.specs.declared.state.Connection.{Connection}
-use Rattle.server_events.specs.Headline.{Reaches}
-use Rattle.server_events.specs.Processes.{Woven}
+use Rattle.headline.specs.Headline.{Reaches}
+use Rattle.headline.specs.Processes.{Woven}
 use Rattle.server_events.specs.ServerState.{Effect, ServerState, lets_in, opens, decides, brings, lets_go, comes_to, fails_at, ends_all, after, count_from, effect, is_admitted, is_opened, may_have, newcomer, stage_of, with_effect, with_stage, without, Happens}
-use Rattle.server_events.specs.Steps.{Advances, Legal, MovesBy, Outside, Step, none, more, beside}
-use Rattle.server_events.specs.Taken.{is_there}
-use Rattle.server_events.specs.Worlds.{KeptFile, World, kept_by, standing}
+use Rattle.headline.specs.Steps.{Advances, Legal, MovesBy, Outside, Step, none, more, beside}
+use Rattle.headline.specs.Taken.{is_there}
+use Rattle.headline.specs.Worlds.{KeptFile, World, kept_by, standing}
 use Rattle.server_events.proofs.Limits.{count_from-with_stage, length-with_stage}
-use Rattle.server_events.proofs.Openings.{kept_by-push_found, kept_by-push_other, kept_by-push_own, kept_with, same_by, waiting_keeps}
+use Rattle.headline.proofs.Openings.{kept_by-push_found, kept_by-push_other, kept_by-push_own, kept_with, same_by, waiting_keeps}
 use Rattle.server_events.proofs.Peers.{peer_of-with_stage, stage_of-with_stage_other, stage_of-without_other}
 use Rattle.server_events.proofs.Effects.{is_step, step_is}
-use Rattle.server_events.proofs.WovenSteps.{its_parts, one_history}
+use Rattle.headline.proofs.WovenSteps.{its_parts, one_history}
 use Rattle.whole_yard.specs.Telling.{AreApart, apart_by, is_apart}
 
 -- ---- changes of two connections, in either order

@@ -1,8 +1,8 @@
 -- A series of calls from a yard that was just made is a history of the headline.
 use Rattle.std.proofs.Common.{◌≡◌, List, [], Option, None, refl, sym, subst}
 use Rattle.rules_install.specs.Installing.{Installing}
-use Rattle.server_events.specs.Steps.{Legal, none, more}
-use Rattle.server_events.specs.Worlds.{IsStart, KeptFile, World}
+use Rattle.headline.specs.Steps.{Legal, none, more}
+use Rattle.headline.specs.Worlds.{IsStart, KeptFile, World}
 use Rattle.server_events.specs.declared.event.Event.{Event}
 use Rattle.whole_yard.specs.Standing.{HasUnderWay, IsNew, IsReachedBy, Matches, Series, YardState}
 use Rattle.whole_yard.specs.Standing.Series.{none as no_call, more as one_more}

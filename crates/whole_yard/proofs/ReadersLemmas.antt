@@ -11,16 +11,15 @@ use Rattle.server_events.specs.Journals.{Books}
 use Rattle.rule_lookup.specs.Pairs.{Rule}
 use Rattle.dir_calls.specs.declared.phase.Phase.{Phase}
 use Rattle.dir_calls.specs.declared.phase.Phase.TheVariants.{Fresh, Filling, Synced, Named, Done}
-use Rattle.server_events.specs.Headline.{Reaches}
-use Rattle.server_events.specs.Processes.{of_installations, is_installations}
-use Rattle.server_events.specs.ServerState.{Effect, lets_in, opens, decides, brings, lets_go, comes_to, fails_at, ends_all, effect, Follows, done}
-use Rattle.server_events.specs.Steps.{Advances, Legal, MovesBy, Step, none, more, beside}
-use Rattle.server_events.specs.Worlds.{Accepted, RulesName, StandsAt, UnderWay, World}
+use Rattle.headline.specs.Headline.{Reaches}
+use Rattle.server_events.specs.ServerState.{Effect, lets_in, opens, decides, brings, lets_go, comes_to, fails_at, ends_all, effect, Follows, done, is_installations, of_installations}
+use Rattle.headline.specs.Steps.{Advances, Legal, MovesBy, Step, none, more, beside}
+use Rattle.headline.specs.Worlds.{Accepted, RulesName, StandsAt, UnderWay, World}
 use Rattle.server_events.specs.declared.event.Event.{Event}
 use Rattle.server_events.specs.declared.event.Event.TheVariants.{Stepped}
-use Rattle.server_events.proofs.StandingTexts.{IsText}
+use Rattle.headline.proofs.StandingTexts.{IsText}
 use Rattle.server_events.proofs.Effects.{may_come_follows, step_is}
-use Rattle.server_events.proofs.WholeText.{Agree, good_reached, good_rules}
+use Rattle.headline.proofs.WholeText.{Agree, good_reached, good_rules}
 use Rattle.whole_yard.proofs.Installs.{reached_by}
 use Rattle.whole_yard.specs.Installed.{KeepsHistory, installs_of}
 use Rattle.whole_yard.specs.Readers.{IsAbsentOrCompiled, KeptYard, NamesCompiled, NamesStored, NamesStoredSinceDone, ReadersFind, begins_by, begun_in, is_first}

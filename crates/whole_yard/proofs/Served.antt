@@ -1,12 +1,12 @@
 -- What serves a connection is a series of calls, so that a history of the headline goes on by its events.
 use Rattle.std.proofs.Common.{◌≡◌, ℕ, List, [], ◌∷◌, ◌++◌, None, Some, sym, ap, ◌∙◌}
 use Rattle.server_events.specs.ServerState.{ServerState, stage_of}
-use Rattle.server_events.specs.Steps.{none, more}
-use Rattle.server_events.specs.Worlds.{KeptFile, kept_by}
+use Rattle.headline.specs.Steps.{none, more}
+use Rattle.headline.specs.Worlds.{KeptFile, kept_by}
 use Rattle.server_events.specs.declared.event.Event.{Event}
 use Rattle.server_events.specs.declared.event.Stage.TheVariants as stage
-use Rattle.server_events.proofs.InstalledRuns.{legal_then}
-use Rattle.server_events.proofs.Openings.{kept_by-push_own, waiting_keeps}
+use Rattle.headline.proofs.InstalledRuns.{legal_then}
+use Rattle.headline.proofs.Openings.{kept_by-push_own, waiting_keeps}
 use Rattle.whole_yard.specs.Standing.{IsReachedBy, YardState}
 use Rattle.whole_yard.specs.Serving.{IsReachedOn, Serves}
 use Rattle.whole_yard.specs.Serving.Serves.{at_once, undecided, decided}

@@ -13,8 +13,8 @@ use Rattle.dir_calls.specs.declared.phase.Phase.TheVariants.{Fresh, Filling, Syn
 use Rattle.rules_install.specs.declared.fault.InstallFault.{InstallFault}
 use Rattle.rules_install.specs.declared.fault.InstallFault.TheVariants.{Line, TooLarge, Disk, Over, OutOfMemory}
 use Rattle.server_events.specs.ServerState.{ServerState, after}
-use Rattle.server_events.specs.Steps.{Advances, FailsTo, Step}
-use Rattle.server_events.specs.Worlds.{KeptFile, RulesName, UnderWay, World}
+use Rattle.headline.specs.Steps.{Advances, FailsTo, Step}
+use Rattle.headline.specs.Worlds.{KeptFile, RulesName, UnderWay, World}
 use Rattle.server_events.specs.declared.event.Event.{Event}
 use Rattle.server_events.specs.declared.event.Event.TheVariants.{Stepped, StepFailed}
 use Rattle.server_events.proofs.Effects.{step_is}

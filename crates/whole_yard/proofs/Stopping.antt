@@ -7,8 +7,8 @@ use Rattle.dir_calls.specs.Outcomes.{Passes}
 use Rattle.dir_calls.specs.declared.dir.Dir.{Ghosts}
 use Rattle.rules_install.specs.Installing.{Installing, next_phase}
 use Rattle.rules_install.specs.Steps.{IsCallOf, StepStops}
-use Rattle.server_events.specs.Steps.{MayBeAt}
-use Rattle.server_events.specs.Worlds.{World}
+use Rattle.headline.specs.Steps.{MayBeAt}
+use Rattle.headline.specs.Worlds.{World}
 use Rattle.rules_install.specs.Series.{MayStepFrom}
 use Rattle.whole_yard.specs.UnderWay.{IsUnderWay, Leaves}
 use Rattle.whole_yard.proofs.Meeting.{calls, follows}

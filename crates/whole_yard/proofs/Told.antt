@@ -3,18 +3,18 @@ use Rattle.std.proofs.Common.{◌≡◌, ℕ, List, ◌∷◌, Option, None, Som
 use Rattle.std.specs.Prelude.{is_some, option_and_then}
 use Rattle.dir_calls.specs.Directory.{Directory, content}
 use Rattle.rules_install.specs.Installing.{Installing}
-use Rattle.server_events.specs.Headline.{Reaches}
-use Rattle.server_events.specs.Processes.{Woven, of_server}
+use Rattle.headline.specs.Headline.{Reaches}
+use Rattle.headline.specs.Processes.{Woven, of_server}
 use Rattle.server_events.specs.ServerState.{ServerState, stage_of}
-use Rattle.server_events.specs.Steps.{Legal, none, more, beside}
-use Rattle.server_events.specs.Worlds.{KeptFile, RulesName, World, kept_by, standing}
+use Rattle.headline.specs.Steps.{Legal, none, more, beside}
+use Rattle.headline.specs.Worlds.{KeptFile, RulesName, World, kept_by, standing}
 use Rattle.server_events.specs.declared.event.Event.{Event}
 use Rattle.server_events.specs.declared.event.Event.TheVariants.{Opened}
 use Rattle.server_events.specs.declared.event.Stage.TheVariants as stage
 use Rattle.whole_yard.proofs.OpenedBefore.{opens_at_once}
-use Rattle.server_events.proofs.Openings.{moves_same}
+use Rattle.headline.proofs.Openings.{moves_same}
 use Rattle.server_events.proofs.Effects.{step_is}
-use Rattle.server_events.proofs.WovenSteps.{one_history}
+use Rattle.headline.proofs.WovenSteps.{one_history}
 use Rattle.whole_yard.specs.Serving.{IsServers, over}
 use Rattle.whole_yard.specs.Standing.{HasUnderWay, LeadsOpened, Matches, YardState, standing_of}
 use Rattle.whole_yard.specs.Telling.{AreApart, ToldLater}

@@ -8,24 +8,24 @@ use Rattle.server_events.specs.Journals.{Books}
 use Rattle.rule_lookup.specs.Decisions.{decision_from}
 use Rattle.rule_lookup.specs.declared.decision.Decision.{Decision}
 use Rattle.rule_lookup.specs.declared.decision.WhenMissing.{WhenMissing}
-use Rattle.server_events.specs.Headline.{Reaches}
+use Rattle.headline.specs.Headline.{Reaches}
 use Rattle.server_events.specs.Live.{since_stop}
-use Rattle.server_events.specs.Processes.{ServerSteps, Woven, is_connections, none, serves, installs, stops, outside, of_connections, of_installations, of_server}
-use Rattle.server_events.specs.ServerState.{Effect, ServerState, lets_in, opens, decides, brings, lets_go, comes_to, fails_at, ends_all, after, effect, may_happen, may_have, newcomer, stage_of, start, with_effect, with_stage, without}
-use Rattle.server_events.specs.Steps.{MovesBy, none as no_step}
-use Rattle.server_events.specs.Worlds.{KeptFile, RulesName, World, kept_by, missing_by, missing_in, peer_of, standing}
+use Rattle.headline.specs.Processes.{ServerSteps, Woven, none, serves, installs, stops, outside, of_server}
+use Rattle.server_events.specs.ServerState.{Effect, ServerState, lets_in, opens, decides, brings, lets_go, comes_to, fails_at, ends_all, after, effect, may_happen, may_have, newcomer, stage_of, start, with_effect, with_stage, without, is_connections, of_connections, of_installations, peer_of}
+use Rattle.headline.specs.Steps.{MovesBy, none as no_step}
+use Rattle.headline.specs.Worlds.{KeptFile, RulesName, World, kept_by, missing_by, missing_in, standing}
 use Rattle.server_events.specs.declared.event.Event.{Event}
 use Rattle.server_events.specs.declared.event.Stage.{Stage}
 use Rattle.server_events.specs.declared.event.Stage.TheVariants as stage
-use Rattle.server_events.proofs.Allowed.{reached_within}
+use Rattle.headline.proofs.AllowedSteps.{reached_within}
 use Rattle.server_events.proofs.Effects.{Sound, is_admitted-true, is_opened-true, not_opened, sound, is_step}
-use Rattle.server_events.proofs.InstalledRuns.{legal_then}
+use Rattle.headline.proofs.InstalledRuns.{legal_then}
 use Rattle.server_events.proofs.LiveLemmas.{Tells, tells as tells_of, tells_after}
-use Rattle.server_events.proofs.Openings.{decided_by_standing, has_its_opening, kept_by-push_found, kept_by-push_own, kept_with, moves_same, waiting_keeps}
+use Rattle.headline.proofs.Openings.{decided_by_standing, has_its_opening, kept_by-push_found, kept_by-push_own, kept_with, moves_same, waiting_keeps}
 use Rattle.server_events.proofs.Peers.{stage_of-peer_of, stage_of-push_is, stage_of-with_stage_is, stage_of-without_is}
 use Rattle.server_events.proofs.Serials.{Rise}
-use Rattle.server_events.proofs.WholeText.{reached_whole}
-use Rattle.server_events.proofs.WovenSteps.{one_history}
+use Rattle.headline.proofs.WholeText.{reached_whole}
+use Rattle.headline.proofs.WovenSteps.{one_history}
 use Rattle.server_yard.specs.Runs.{IsRun}
 use Rattle.whole_yard.specs.Findings.{AreByFound, AreInstallations, BeginsRun, FindsWhatStands, Found, InOrderOfFinding, IsByFound, IsHistoryTo, IsPlayedOut}
 use Rattle.whole_yard.specs.Serving.{IsServers}

@@ -4,11 +4,11 @@ use Rattle.cdb_files.specs.Reading.{reading}
 use Rattle.rule_lookup.specs.Peers.{Client}
 use Rattle.rule_lookup.specs.Decisions.{decision_from}
 use Rattle.rule_lookup.specs.declared.decision.WhenMissing.{WhenMissing}
-use Rattle.server_events.specs.Headline.{IsKeptBy, Reaches}
+use Rattle.headline.specs.Headline.{IsKeptBy, Reaches}
 use Rattle.server_events.specs.Live.{concerns_by}
-use Rattle.server_events.specs.Processes.{ServerSteps, Woven, is_installations}
-use Rattle.server_events.specs.ServerState.{Effect, ServerState, decides, lets_in, opens, after, effect, start}
-use Rattle.server_events.specs.Worlds.{IsStart, World, missing_in, peer_of, standing}
+use Rattle.headline.specs.Processes.{ServerSteps, Woven}
+use Rattle.server_events.specs.ServerState.{Effect, ServerState, decides, lets_in, opens, after, effect, start, is_installations, peer_of}
+use Rattle.headline.specs.Worlds.{IsStart, World, missing_in, standing}
 use Rattle.server_events.specs.declared.event.Event.{Event}
 use Rattle.server_events.specs.declared.event.Event.TheVariants.{Opened}
 

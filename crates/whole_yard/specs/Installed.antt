@@ -1,13 +1,13 @@
 -- What the installations of a yard left in its directory.
 use Rattle.std.specs.Prelude.{◌≡◌, ◌++◌, ⊤, ℕ, List, Option, None, Some, IfSome, map}
 use Rattle.std.specs.List.{filter}
+use Rattle.server_events.specs.ServerState.{is_installations}
 use Rattle.server_events.specs.Journals.{Books}
 use Rattle.rule_lookup.specs.Pairs.{Rule}
-use Rattle.server_events.specs.Steps.{Legal}
-use Rattle.server_events.specs.Worlds.{IsOf, IsStart, World}
+use Rattle.headline.specs.Steps.{Legal}
+use Rattle.headline.specs.Worlds.{IsOf, IsStart, World}
 use Rattle.server_events.specs.declared.event.Event.{Event}
 use Rattle.server_yard.specs.Rolls.{IsHistory}
-use Rattle.server_events.specs.Processes.{is_installations}
 use Rattle.whole_yard.specs.Standing.{HasUnderWay, YardState}
 
 -- the events of the installations alone

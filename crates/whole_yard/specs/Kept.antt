@@ -8,7 +8,7 @@ use Rattle.rules_install.specs.Installing.{Fits, FitsPhase, Installing}
 use Rattle.rules_install.specs.Installs.{installing}
 use Rattle.dir_calls.specs.declared.phase.Phase.{Phase}
 use Rattle.dir_calls.specs.declared.phase.Phase.TheVariants.{Fresh, Filling, Synced, Named, Done}
-use Rattle.server_events.specs.Worlds.{RulesName}
+use Rattle.headline.specs.Worlds.{RulesName}
 use Rattle.whole_yard.specs.Standing.{YardState}
 use Rattle.whole_yard.specs.declared.yard.Installation.{Installation}
 use Rattle.whole_yard.specs.declared.yard.Installation.TheVariants.{Idle, UnderWay, AtDone}

@@ -8,7 +8,7 @@ use Rattle.server_events.specs.Journals.{Books}
 use Rattle.rule_lookup.specs.Pairs.{Rule}
 use Rattle.dir_calls.specs.declared.phase.Phase.TheVariants.{Fresh, Done}
 use Rattle.server_events.specs.ServerState.{Effect, comes_to, effect}
-use Rattle.server_events.specs.Worlds.{IsOf, RulesName}
+use Rattle.headline.specs.Worlds.{IsOf, RulesName}
 use Rattle.server_events.specs.declared.event.Event.{Event}
 use Rattle.server_events.specs.declared.event.Event.TheVariants.{Stepped}
 use Rattle.whole_yard.specs.Installed.{KeepsHistory}

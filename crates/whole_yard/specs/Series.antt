@@ -6,8 +6,8 @@ use Rattle.rules_install.specs.Installing.{Installing}
 use Rattle.dir_calls.specs.declared.phase.Phase.{Phase}
 use Rattle.rules_install.specs.declared.fault.InstallFault.{InstallFault}
 use Rattle.rules_install.specs.declared.fault.InstallFault.TheVariants.{Disk}
-use Rattle.server_events.specs.Steps.{Legal}
-use Rattle.server_events.specs.Worlds.{World}
+use Rattle.headline.specs.Steps.{Legal}
+use Rattle.headline.specs.Worlds.{World}
 use Rattle.server_events.specs.declared.event.Event.{Event}
 use Rattle.server_events.specs.declared.event.Event.TheVariants.{Stepped, StepFailed}
 

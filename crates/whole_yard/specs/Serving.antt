@@ -4,9 +4,9 @@ use Rattle.rule_lookup.specs.declared.decision.Decision.{Decision}
 use Rattle.server_events.specs.declared.event.Event.{Event}
 use Rattle.server_events.specs.declared.event.Event.TheVariants.{Opened, Decided}
 use Rattle.dir_calls.specs.Directory.{Directory}
-use Rattle.server_events.specs.Processes.{ServerSteps, of_server}
+use Rattle.headline.specs.Processes.{ServerSteps, of_server}
 use Rattle.server_events.specs.ServerState.{Effect, lets_in, brings, lets_go, effect}
-use Rattle.server_events.specs.Worlds.{KeptFile, World}
+use Rattle.headline.specs.Worlds.{KeptFile, World}
 use Rattle.server_yard.specs.Rolls.{Roll}
 use Rattle.whole_yard.specs.Standing.{IsReachedBy, LeadsDecided, LeadsOn, LeadsOpened, Matches, YardState}
 

@@ -4,10 +4,10 @@ use Rattle.dir_calls.specs.Directory.{Directory, content}
 use Rattle.whole_yard.specs.UnderWay.{IsAsFar}
 use Rattle.rules_install.specs.Installing.{Installing}
 use Rattle.rule_lookup.specs.declared.decision.Decision.{Decision}
-use Rattle.server_events.specs.Headline.{Reaches}
+use Rattle.headline.specs.Headline.{Reaches}
 use Rattle.server_events.specs.ServerState.{ServerState, start}
-use Rattle.server_events.specs.Steps.{Step}
-use Rattle.server_events.specs.Worlds.{Accepted, KeptFile, RulesName, StartsWith, World, kept_by}
+use Rattle.headline.specs.Steps.{Step}
+use Rattle.headline.specs.Worlds.{Accepted, KeptFile, RulesName, StartsWith, World, kept_by}
 use Rattle.server_events.specs.declared.event.Event.{Event}
 use Rattle.server_events.specs.declared.event.Event.TheVariants.{Opened, Decided}
 

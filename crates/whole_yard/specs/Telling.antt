@@ -1,9 +1,9 @@
 -- A connection that opened the rules by a handle of its own, beside its yard, which is told of it later.
 use Rattle.std.specs.Prelude.{◌≡◌, ◌≢◌, ⊤, ℕ, Bool, true, false, not, List, [], ◌∷◌, Option, Some, is_some}
 use Rattle.server_events.specs.Live.{concerns_by}
-use Rattle.server_events.specs.Processes.{Woven}
+use Rattle.headline.specs.Processes.{Woven}
 use Rattle.server_events.specs.ServerState.{Effect, effect, ends_all}
-use Rattle.server_events.specs.Worlds.{KeptFile, World, kept_by}
+use Rattle.headline.specs.Worlds.{KeptFile, World, kept_by}
 use Rattle.server_events.specs.declared.event.Event.{Event}
 use Rattle.server_events.specs.declared.event.Event.TheVariants.{Opened}
 use Rattle.whole_yard.specs.Serving.{IsServers}

@@ -11,8 +11,8 @@ use Rattle.dir_calls.specs.declared.phase.Phase.{Phase}
 use Rattle.dir_calls.specs.declared.phase.Phase.TheVariants.{Fresh, Filling, Synced, Named, Done}
 use Rattle.rules_install.specs.declared.fault.InstallFault.{InstallFault}
 use Rattle.rules_install.specs.declared.fault.InstallFault.TheVariants.{Disk}
-use Rattle.server_events.specs.Steps.{MayLeave, Step}
-use Rattle.server_events.specs.Worlds.{RulesName, UnderWay, World}
+use Rattle.headline.specs.Steps.{MayLeave, Step}
+use Rattle.headline.specs.Worlds.{RulesName, UnderWay, World}
 use Rattle.server_events.specs.declared.event.Event.TheVariants.{Stepped, StepFailed}
 
 -- the name of an installation's rules file, and what a server decides if no file stands there

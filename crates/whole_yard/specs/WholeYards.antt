@@ -7,11 +7,12 @@ use Rattle.dir_calls.specs.declared.rules_file.RulesFile as file
 use Rattle.rules_install.specs.Installing.{Installing}
 use Rattle.server_events.specs.Journals.{Books}
 use Rattle.server_events.specs.ServerState.{ServerState, start}
-use Rattle.server_events.specs.Steps.{MayLeave}
-use Rattle.server_events.specs.Worlds.{KeptFile, RulesName, World}
+use Rattle.headline.specs.Steps.{MayLeave}
+use Rattle.headline.specs.Worlds.{KeptFile, RulesName, World}
 use Rattle.server_events.specs.declared.journal.Journal.{Journal}
 use Rattle.server_yard.specs.Rolls.{Roll}
 use Rattle.server_yard.specs.Yards.{yard_books, yard_journal, yard_roll, yard_seat, yard_server}
+use Rattle.server_yard.specs.declared.yard.Yard.{Yard}
 use Rattle.whole_yard.specs.Kept.{installing_of, is_kept, rules_of, state_of}
 use Rattle.whole_yard.specs.Standing.{Matches, YardState}
 use Rattle.whole_yard.specs.declared.assumptions.Assumptions as assumptions
@@ -31,10 +32,11 @@ module _ {L D F : Type 0} {p : assumptions.Ghosts L} {d : dir.Ghosts D F} {f : f
   abbrev pub whole_roll : WholeYard L D F p d f → Roll
   whole_roll y = yard_roll y.yard
 
-  -- its journal, what that tells, and the state that the events led to
-  abbrev pub whole_journal : WholeYard L D F p d f → Journal
-  whole_journal y = yard_journal y.yard
+  -- its connections
+  abbrev pub whole_connections : WholeYard L D F p d f → Yard L
+  whole_connections y = y.yard
 
+  -- what its journal tells, and the state that the events led to
   abbrev pub whole_books : WholeYard L D F p d f → Books
   whole_books y = yard_books y.yard
 
@@ -90,7 +92,7 @@ module _ {L D F : Type 0} {p : assumptions.Ghosts L} {d : dir.Ghosts D F} {f : f
   pub record IsMadeWhole (directory : D) (rules : Option RulesName) (limit per_address : ℕ) (journal : Journal) (y : WholeYard L D F p d f) : Type 0 where
     pub has_limits : (0 < limit) × (0 < per_address)
     pub empty : whole_server y ≡ start limit per_address
-    pub has_journal : whole_journal y ≡ journal
+    pub has_journal : yard_journal y.yard ≡ journal
     pub nobody_speaks : (whole_roll y).speaker ≡ 0
     pub has_directory : whole_directory y ≡ directory
     pub has_rules : whole_rules y ≡ rules

@@ -1,5 +1,6 @@
 //! The end of a site: its receipts are its whole history.
 ghost use Rattle.std.specs.Prelude.{◌≡◌, ◌≢◌, ◌+◌, ◌↔◌, Err, IsOk, IfOk, IfErr, OnOk, length};
+ghost use Rattle.server_yard.specs.Yards.{yard_books};
 ghost use Rattle.whole_yard.specs.WholeYards.{whole_books};
 ghost use Rattle.whole_yard.specs.Closings.{IsNotWhole, IsWhole};
 ghost use Rattle.whole_yard.specs.declared.closing.NotWhole.TheVariants.{Missing};
@@ -10,6 +11,7 @@ use crate::laws::whole;
 use crate::site::WholeSite;
 use crate::yard::WholeYard;
 use dir_calls::Dir;
+use server_yard::Yard;
 use shared_site::{Callers, Receipt};
 use std::sync::ledger::{Ledger, Share};
 
@@ -41,13 +43,10 @@ pub enum NotWhole {
 /// # Errors
 /// `OnlyCounted` if the journal of the yard stores no events; `Wrong` with the first receipt that is wrong; otherwise
 /// `Missing`.
-pub fn audit_whole<L: Assumptions, D: Dir + Drop>(
-    yard: &WholeYard<L, D>,
-    receipts: &[Receipt],
-) -> Result<(), NotWhole>
-    ensures whole { OnOk result (IsWhole (whole_books yard.now).notes receipts.now) }
-    ensures refused { IfErr result (IsNotWhole (whole_books yard.now).notes receipts.now) }
-    ensures missing { result ≡ Err Missing → length receipts.now ≢ (whole_books yard.now).count }
+pub fn audit_whole<L: Ledger>(yard: &Yard<L>, receipts: &[Receipt]) -> Result<(), NotWhole>
+    ensures whole { OnOk result (IsWhole (yard_books yard.now).notes receipts.now) }
+    ensures refused { IfErr result (IsNotWhole (yard_books yard.now).notes receipts.now) }
+    ensures missing { result ≡ Err Missing → length receipts.now ≢ (yard_books yard.now).count }
 {
     whole();
     yard.history();
@@ -92,6 +91,6 @@ pub fn close_and_audit<L: Assumptions, N: Callers, D: Dir + Drop>(
         share,
     } = callers;
     let yard = site.close(share);
-    let audited = audit_whole(&yard, receipts);
+    let audited = audit_whole(yard.connections(), receipts);
     Ok((yard, audited))
 }

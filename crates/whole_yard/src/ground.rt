@@ -14,4 +14,6 @@ impl<L: Assumptions, D: Dir> Ground for ConnectionsOver<L, D> {
     type Callers = Brand;
 
     type File = D::File;
+
+    ghost missing = { L.missing };
 }

@@ -13,8 +13,8 @@ ghost use Rattle.rules_install.specs.Series.{IsSeries, MakesStep, MayStepFrom};
 ghost use Rattle.rules_install.specs.Steps.{IsCallOf};
 ghost use Rattle.dir_calls.specs.declared.phase.Phase.{Phase};
 ghost use Rattle.rules_install.specs.declared.fault.InstallFault.{InstallFault};
-ghost use Rattle.server_events.specs.Steps.{MayBeAt};
-ghost use Rattle.server_events.specs.Worlds.{World};
+ghost use Rattle.headline.specs.Steps.{MayBeAt};
+ghost use Rattle.headline.specs.Worlds.{World};
 
 /// A new installation is under way in each world that has its directory and follows rules of its name.
 pub fn begins()

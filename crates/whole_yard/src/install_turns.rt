@@ -24,8 +24,8 @@ use shared_site::Made;
 use shared_site::receipt::EventSnapshot;
 use std::alloc::Global;
 
-/// Begins an installation, as `WholeYard::install_begin` does. The answer also has the event, if it was one: a first step,
-/// or a fault of the directory.
+/// Begins an installation, as `WholeYard::install_begin` does. The answer also has the event, if it was one: a first
+/// step, or a fault of the directory.
 #[derive(Drop)]
 pub struct InstallBegin {
     /// What gives memory.
@@ -54,7 +54,8 @@ impl<L: Assumptions, D: Dir + Drop> WholeTurn<L, D> for InstallBegin {
         ensures begun { last_begun yard.new ≡ last_begun_after result.0 (last_begun yard.old) }
         ensures kept { kept_number yard.new ≡ kept_after_begin result.0 (kept_number yard.old) }
         ensures rules { whole_rules yard.new ≡ whole_rules yard.old }
-        ensures noted { NotesSome (begin_event result.0) (spoken_by caller (whole_roll yard.old)) (whole_roll yard.new) }
+        ensures noted { NotesSome
+            (begin_event result.0) (spoken_by caller (whole_roll yard.old)) (whole_roll yard.new) }
         ensures step { IsTrue D.honest → LeadsSome
             (begin_event result.0) (whole_state yard.old) (whole_state yard.new) }
         ensures stops { IsTrue D.honest → LeavesNothingElse yard.old yard.new }
@@ -74,8 +75,8 @@ impl<L: Assumptions, D: Dir + Drop> WholeTurn<L, D> for InstallBegin {
     }
 }
 
-/// Makes the next step of an installation, as `WholeYard::install_step` does. The answer also has the event, if it was one:
-/// a step of an installation under way, or a fault of the directory.
+/// Makes the next step of an installation, as `WholeYard::install_step` does. The answer also has the event, if it was
+/// one: a step of an installation under way, or a fault of the directory.
 #[derive(Drop)]
 pub struct InstallStep {
     /// What gives memory.

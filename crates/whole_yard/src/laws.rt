@@ -7,10 +7,10 @@ ghost use Rattle.rule_lookup.specs.Pairs.{Rule};
 ghost use Rattle.rule_lookup.specs.Peers.{Client};
 ghost use Rattle.rule_lookup.specs.declared.decision.Decision.{Decision};
 ghost use Rattle.rule_lookup.specs.declared.decision.WhenMissing.{WhenMissing};
-ghost use Rattle.server_events.specs.Headline.{Reaches};
-ghost use Rattle.server_events.specs.Processes.{Woven, is_connections};
-ghost use Rattle.server_events.specs.ServerState.{ServerState, start, HasStage};
-ghost use Rattle.server_events.specs.Worlds.{KeptFile, World, missing_by, peer_of};
+ghost use Rattle.headline.specs.Headline.{Reaches};
+ghost use Rattle.headline.specs.Processes.{Woven};
+ghost use Rattle.server_events.specs.ServerState.{ServerState, start, HasStage, is_connections, peer_of};
+ghost use Rattle.headline.specs.Worlds.{KeptFile, World, missing_by};
 ghost use Rattle.server_events.specs.declared.event.Event.{Event};
 ghost use Rattle.server_events.specs.declared.journal.Noted.{Noted};
 ghost use Rattle.shared_site.specs.declared.receipt.Receipt.{Receipt as TheReceipt};
@@ -45,7 +45,7 @@ pub fn served()
 
 /// Each call of a server's yard is a step of the server by itself, beside installers in other processes, and others.
 ///
-/// The call leads on over the directory as the others left it. `server_events::laws::two_processes` weaves such steps.
+/// The call leads on over the directory as the others left it. `headline::laws::two_processes` weaves such steps.
 pub fn beside()
     ensures { (w : World) (y z : YardState) (files more : List KeptFile) (event : Event) → is_connections event ≡ true
         → IsServers y files w → Leads event (over y w.directory) files (over z w.directory) more
@@ -54,10 +54,11 @@ pub fn beside()
 
 /// Each event of a connection that a yard notes is a step of the headline, over whatever directory others left.
 ///
-/// By a call's clause `noted` its event is noted between the yard's rolls before and after it, and by `same` the yard has
-/// the same rules and installation. So with these rolls `y` is the yard before and after the call: over any directory, as
-/// others left it, or over its own if that is the same. An opening has to find what stands there. A decision has to be by
-/// what its connection keeps, for its peer: `Yard::decided` requires that, as far as files are honest.
+/// By a call's clause `noted` its event is noted between the yard's rolls before and after it, and by `same` a whole
+/// yard has the same rules and installation. So with these rolls `y` is the yard before and after the call: over any
+/// directory, as others left it, or over its own if that is the same. An opening has to find what stands there. A
+/// decision has to be by what its connection keeps, for its peer: `Yard::decided` requires that, as far as files are
+/// honest.
 pub fn noted_leads()
     ensures plain { (y : YardState) (event : Event) (old new : Roll) → is_plain event ≡ true → Notes event old new
         → LeadsOn event (with_roll y old) (with_roll y new) }
@@ -71,10 +72,10 @@ pub fn noted_leads()
 
 /// An opening that takes some time is as good as one at a moment of its call.
 ///
-/// It is made by `WholeYard::open`, or by a handle of the connection's own. Others go on meanwhile, and the yard's other
-/// connections too. It found what stood at that moment, and the yard is told of it later (`noted_leads`: `opened`). All
-/// is as if it had opened the rules at that moment, so the headline says that its decision is by the text that stood
-/// then.
+/// It is made by `WholeYard::open`, or by a handle of the connection's own. Others go on meanwhile, and the yard's
+/// other connections too. It found what stood at that moment, and the yard is told of it later (`noted_leads`:
+/// `opened`). All is as if it had opened the rules at that moment, so the headline says that its decision is by the
+/// text that stood then.
 pub fn told_later()
     ensures { (history events : List Event) (u w : World) (y z : YardState) (files : List KeptFile)
         (n : ℕ) (bytes : Option (List ℕ)) → Reaches history u
@@ -100,13 +101,13 @@ pub fn readers()
 ///
 /// What the turns of a server's site tell, one after another, is a run (`shared_site`: `Guarded::turn`: `runs_on`).
 /// Between two of its events installers, one after another, and others go on. An opening stands in the history when it
-/// found its file: at some time since its connection was let in, in whatever order (`InOrderOfFinding`). So at each time
-/// a whole accepted text stands under the rules name, or none; each decision is by the text that stood there when its
-/// connection opened the rules; and the limit is kept.
+/// found its file: at some time since its connection was let in, in whatever order (`InOrderOfFinding`). So at each
+/// time a whole accepted text stands under the rules name, or none; each decision is by the text that stood there when
+/// its connection opened the rules; and the limit is kept.
 ///
 /// The premises are the headline's: the start is whole (`BeginsRun`), and what an opening found stood there
-/// (`FindsWhatStands`). Besides, each decision is by what its own connection found (`AreByFound`): the turn of a decision
-/// asks this of its pass, as far as files are honest.
+/// (`FindsWhatStands`). Besides, each decision is by what its own connection found (`AreByFound`): the turn of a
+/// decision asks this of its pass, as far as files are honest.
 pub fn whole_run()
     ensures { (books : Books) (server : ServerState) (events order : List Event) (found : Found) (missing : WhenMissing)
         (w : World) → IsRun books server events

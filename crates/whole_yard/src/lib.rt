@@ -1,13 +1,13 @@
 //! The whole yard: what the headline speaks of, and what laws and tests say of it. No crate of the program uses it.
 //!
 //! A server's yard has the connections, and installations are made by another process. `WholeYard` has both over one
-//! directory, one event after another: `make_step` makes each step of an installation, and each call that is an event is
-//! a step of the headline's world over an honest directory (`step`, or `noted` with `laws::noted_leads`). `laws` ties the
-//! events of a server's yard to that world, over whatever directory other processes left.
+//! directory, one event after another: `make_step` makes each step of an installation, and each call that is an event
+//! is a step of the headline's world over an honest directory (`step`, or `noted` with `laws::noted_leads`). `laws`
+//! ties the events of a server's yard to that world, over whatever directory other processes left.
 //!
-//! `WholeSite` is a whole yard under one lock. Its turns `Open`, `InstallBegin` and `InstallStep` are calls that a server
-//! leaves to handles and other processes, and `OfConnection` makes the turns of a server's site. `audit`, `audit_whole`
-//! and `close_and_audit` compare receipts with a history. `test_programs` runs the turns and an audit.
+//! `WholeSite` is a whole yard under one lock. Its turns `Open`, `InstallBegin` and `InstallStep` are calls that a
+//! server leaves to handles and other processes, and `OfConnection` makes the turns of a server's site. `audit`,
+//! `audit_whole` and `close_and_audit` compare receipts with a history. `test_programs` runs the turns and an audit.
 #![tactic(auto)]
 
 pub mod assumptions;

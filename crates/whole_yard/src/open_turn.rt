@@ -2,7 +2,7 @@
 //! opens them by a handle of its own (`shared_site::site::Opened`).
 ghost use Rattle.std.specs.Prelude.{◌≡◌, ◌↔◌, ⊤, false, Err, None, IsTrue, IfOk, OnErr, is_some};
 ghost use Rattle.server_events.specs.ServerState.{is_admitted, stage_of};
-ghost use Rattle.server_events.specs.Worlds.{missing_by};
+ghost use Rattle.headline.specs.Worlds.{missing_by};
 ghost use Rattle.server_events.specs.declared.event.Event.TheVariants as event;
 ghost use Rattle.server_yard.specs.Passes.{pass_bytes, pass_file, pass_missing};
 ghost use Rattle.server_yard.specs.Rolls.{IsQuiet};
@@ -86,7 +86,7 @@ impl<L: Assumptions, D: Dir + Drop> WholeTurn<L, D> for Open {
     {
         let Open { alloc, serial } = self;
         yard.speaker(caller);
-        if yard.stage(serial) != Some(Stage::Admitted) {
+        if yard.connections().stage(serial) != Some(Stage::Admitted) {
             return Err(OpenFault::OutOfTurn);
         }
         match yard.open(alloc, serial) {

@@ -28,9 +28,9 @@ impl<L: Assumptions, N: Callers, D: Dir + Drop> Guarded<L, N, D> {
         requires may { T.may turn }
         ensures counted { CountsForIts (T.answers turn) result caller.old caller.new }
     {
-        let before = self.yard.journal().events();
+        let before = self.yard.connections().journal().events();
         let answer = turn.run(&mut self.yard, caller.number());
-        let made = self.yard.journal().events() - before;
+        let made = self.yard.connections().journal().events() - before;
         self.events.add(&mut caller.share, made);
         answer
     }

@@ -10,11 +10,11 @@ ghost use Rattle.rules_install.specs.declared.fault.InstallFault.TheVariants.{Ov
 ghost use Rattle.server_events.specs.JournalParts.{books_of_journal};
 ghost use Rattle.server_events.specs.Journals.{HasSameRoom};
 ghost use Rattle.server_events.specs.ServerState.{stage_of};
-ghost use Rattle.server_events.specs.Worlds.{missing_by};
+ghost use Rattle.headline.specs.Worlds.{missing_by};
 ghost use Rattle.server_events.specs.declared.event.Event.TheVariants.{Opened};
 ghost use Rattle.server_events.specs.declared.event.Stage.TheVariants as stage;
 ghost use Rattle.server_yard.specs.Passes.{pass_bytes, pass_file, pass_missing, pass_serial};
-ghost use Rattle.server_yard.specs.Rolls.{CountsStored, HasNoEvents, IsQuiet, Lived, Notes, NotesSome};
+ghost use Rattle.server_yard.specs.Rolls.{HasNoEvents, IsQuiet, Notes, NotesSome};
 ghost use Rattle.server_yard.specs.Rooms.{KeepsRoom};
 ghost use Rattle.server_yard.specs.Seating.{KeepsSeats};
 ghost use Rattle.server_yard.specs.Yards.{yard_books, yard_missing, yard_server};
@@ -33,7 +33,7 @@ use child_jobs::TableFault;
 use dir_calls::{Dir, DirFault, Name, Phase};
 use rule_lookup::WhenMissing;
 use rules_install::{Install, InstallFault};
-use server_events::{Journal, Stage};
+use server_events::Journal;
 use server_yard::{Pass, Yard};
 use shared_site::receipt::EventSnapshot;
 use shared_site::site::made;
@@ -52,7 +52,8 @@ enum Installation {
 }
 
 /// The connections of a server and the installations beside them, over one directory. Each call that is an event is one
-/// step of the headline's world.
+/// step of the headline's world; a turn that tells of an opening is one if it found what stands there.
+#[derive(Drop)]
 pub struct WholeYard<L: Assumptions, D: Dir + Drop> {
     yard: Yard<L>,
     dir: D,
@@ -62,8 +63,8 @@ pub struct WholeYard<L: Assumptions, D: Dir + Drop> {
     begun: u64,
     // if the assumptions are met, the directory is honest
     ghost honest: { IsTrue L.met → IsTrue D.honest },
-    // without a file the yard decides as the rules name says
-    ghost missing: { yard_missing yard ≡ missing_by (rules_of rules) },
+    pub ghost missing: { yard_missing yard ≡ L.missing },
+    pub ghost told: { missing_by (rules_of rules) ≡ L.missing },
     // the phase is that of the installation that is kept
     pub ghost phase: { phase_of (installing_of installation) ≡ (yard_server yard).phase },
     ghost going: { IsKeptInstallation (installing_of installation) (rules_of rules) },
@@ -74,32 +75,14 @@ pub struct WholeYard<L: Assumptions, D: Dir + Drop> {
         → ∥ KeepsHistory (yard_books yard) (state_of (yard_server yard) (D.state dir) rules installation) ∥₁ },
 }
 
-// Written out, a drop of all that a yard has is proved here alone. A derived one is proved in each crate above that lets a
-// yard go, with those of all its parts.
-impl<L: Assumptions, D: Dir + Drop> Drop for WholeYard<L, D> {
-    fn drop(self) {
-        let WholeYard {
-            yard,
-            dir,
-            rules,
-            installation,
-            begun: _,
-        } = self;
-        drop(yard);
-        drop(dir);
-        drop(rules);
-        drop(installation);
-    }
-}
-
 impl<L: Assumptions, D: Dir + Drop> WholeYard<L, D> {
-    ghost use Rattle.whole_yard.specs.WholeYards.{IsMadeWhole, IsSameBesides, IsSameButDirectory, LeavesNothingElse, MayBegin, kept_number, kept_under, last_begun, name_of, whole_books, whole_directory, whole_installing, whole_journal, whole_roll, whole_rules, whole_seat, whole_server, whole_state};
+    ghost use Rattle.whole_yard.specs.WholeYards.{IsMadeWhole, IsSameBesides, IsSameButDirectory, LeavesNothingElse, MayBegin, kept_number, kept_under, last_begun, name_of, whole_books, whole_connections, whole_directory, whole_installing, whole_roll, whole_rules, whole_seat, whole_server, whole_state};
 
     /// A yard over a directory, without connections and without an installation under way.
     ///
     /// `rules` has the name of the rules file, and what is decided if no file stands there. Without a name every
-    /// connection is allowed. At most `limit` connections are alive at once, and at most `per_address` from one address.
-    /// `blank` has as many parts as the limit says, and the journal has no event.
+    /// connection is allowed. At most `limit` connections are alive at once, and at most `per_address` from one
+    /// address. `blank` has as many parts as the limit says, and the journal has no event.
     ///
     /// # Errors
     /// `ZeroLimit` if the limit is 0; otherwise `ZeroAddressLimit` if the limit per address is 0.
@@ -116,6 +99,7 @@ impl<L: Assumptions, D: Dir + Drop> WholeYard<L, D> {
         requires parts { (blank.parts ≡ L.parts) × (blank.parts ≡ limit) }
         requires journal { HasNoEvents (books_of_journal journal) }
         requires begins { IsTrue L.met → BeginsWell D.honest (D.state dir) (rules_of rules) }
+        requires missing { missing_by (rules_of rules) ≡ L.missing }
         ensures made { IfOk result (IsMadeWhole dir (rules_of rules) limit per_address journal) }
         ensures refused { IfErr result (RefusesLimits limit per_address) }
     {
@@ -129,18 +113,11 @@ impl<L: Assumptions, D: Dir + Drop> WholeYard<L, D> {
         })
     }
 
-    /// The journal.
-    pub fn journal(&self) -> &Journal
-        ensures { result.now ≡ whole_journal self.now }
+    /// Its connections, with the journal of all events.
+    pub fn connections(&self) -> &Yard<L>
+        ensures { result.now ≡ whole_connections self.now }
     {
-        self.yard.journal()
-    }
-
-    /// The stage of a connection that is alive.
-    pub fn stage(&self, serial: u64) -> Option<Stage>
-        ensures { result ≡ stage_of serial (whole_server self.now).connections }
-    {
-        self.yard.stage(serial)
+        &self.yard
     }
 
     /// A law: what a reader finds is what `laws::readers` says, in each yard whose assumptions were met when it was
@@ -149,14 +126,6 @@ impl<L: Assumptions, D: Dir + Drop> WholeYard<L, D> {
         ensures { IsTrue L.met → IfSome (whole_rules self.now) (λ rules.
             ∥ ReadersFind (whole_books self.now) (whole_state self.now) rules ∥₁) }
     {}
-
-    /// A law: each yard has a history, as `Yard::history` says.
-    pub fn history(&self)
-        ensures lived { ∥ Lived (whole_books self.now) (whole_server self.now) ∥₁ }
-        ensures stored { CountsStored (whole_books self.now) }
-    {
-        self.yard.history();
-    }
 
     /// Says who makes the events that follow: a number from 1, or 0 for nobody, as at first. Nothing else changes.
     pub fn speaker(&mut self, speaker: u64)
@@ -168,10 +137,12 @@ impl<L: Assumptions, D: Dir + Drop> WholeYard<L, D> {
     }
 
     /// Makes a turn of a connection for the caller with this number, as a site makes it. The directory is not called.
+    /// So a turn that tells of an opening may tell of any file, as in a server: `open` looks what stands there.
     pub fn connection<T: Turn<ConnectionsOver<L, D>>>(&mut self, turn: T, caller: u64) -> T::Answer
         requires may { T.may turn }
         ensures answers { T.answers turn caller (whole_books self.old).count result (whole_books self.new).count }
         ensures notes { NotesAs caller (T.tells turn result) (whole_roll self.old) (whole_roll self.new) }
+        ensures room { KeepsRoom (whole_roll self.old) (whole_roll self.new) }
         ensures same { IsSameBesides self.old self.new }
     {
         turn.run(&mut self.yard, caller)
@@ -194,7 +165,8 @@ impl<L: Assumptions, D: Dir + Drop> WholeYard<L, D> {
         ensures state { IsTrue D.honest → whole_state self.new ≡ whole_state self.old }
         ensures stops { IsTrue D.honest → LeavesNothingElse self.old self.new }
         ensures faults { IfErr result (Contains (DirFault.Device ∷ DirFault.OutOfMemory ∷ [])) }
-        ensures counted { CountsFault (D.failed (whole_directory self.old)) (D.failed (whole_directory self.new)) result }
+        ensures counted { CountsFault
+            (D.failed (whole_directory self.old)) (D.failed (whole_directory self.new)) result }
         ensures without { whole_rules self.old ≡ None → whole_directory self.new ≡ whole_directory self.old }
         ensures same { IsSameButDirectory self.old self.new }
         ensures seats { KeepsSeats (whole_seat self.old) (whole_seat self.new) }
@@ -229,7 +201,8 @@ impl<L: Assumptions, D: Dir + Drop> WholeYard<L, D> {
         // a stop since then left what the headline's world may leave: an opening changes nothing
         ensures stops { IsTrue D.honest → LeavesNothingElse self.old self.new }
         ensures faults { IfErr result (Contains (DirFault.Device ∷ DirFault.OutOfMemory ∷ [])) }
-        ensures counted { CountsFault (D.failed (whole_directory self.old)) (D.failed (whole_directory self.new)) result }
+        ensures counted { CountsFault
+            (D.failed (whole_directory self.old)) (D.failed (whole_directory self.new)) result }
         ensures without { whole_rules self.old ≡ None → whole_directory self.new ≡ whole_directory self.old }
         ensures room { KeepsRoom (whole_roll self.old) (whole_roll self.new) }
         ensures same { IsSameButDirectory self.old self.new }
@@ -265,7 +238,8 @@ impl<L: Assumptions, D: Dir + Drop> WholeYard<L, D> {
 
     // The number for an installation, if it may begin.
     fn next_number(&self, install: &Install) -> Option<u64>
-        ensures some { IfSome result (λ number. MayBegin self.now (installing install.now) × (number ≡ last_begun self.now + 1)) }
+        ensures some { IfSome result (λ number.
+            MayBegin self.now (installing install.now) × (number ≡ last_begun self.now + 1)) }
         ensures none { result ≡ None → ¬ MayBegin self.now (installing install.now) }
     {
         if install.stepped() {
@@ -310,7 +284,8 @@ impl<L: Assumptions, D: Dir + Drop> WholeYard<L, D> {
         ensures noted { NotesSome (begin_event result) (whole_roll self.old) (whole_roll self.new) }
         ensures step { IsTrue D.honest → LeadsSome
             (begin_event result) (whole_state self.old) (whole_state self.new) }
-        // a stop at any moment since left what the headline's world may leave, or an image of the directory as it is then
+        // a stop at any moment since left what the headline's world may leave, or an image of the directory as it is
+        // then
         ensures stops { IsTrue D.honest → LeavesNothingElse self.old self.new }
         ensures lists { (whole_books self.new).lists
             ≡ lists_after_begin result (installing install).rules (whole_books self.old).lists }
@@ -366,7 +341,8 @@ impl<L: Assumptions, D: Dir + Drop> WholeYard<L, D> {
         // the device is blamed only if it failed, and that was counted; if none is under way the directory is not
         // called
         ensures device { IsTrue D.honest → IsOfDevice result }
-        ensures blames { BlamesDevice (D.failed (whole_directory self.old)) (D.failed (whole_directory self.new)) result }
+        ensures blames { BlamesDevice
+            (D.failed (whole_directory self.old)) (D.failed (whole_directory self.new)) result }
         ensures untouched { kept_under self.old number ≡ None → whole_directory self.new ≡ whole_directory self.old }
         ensures room { HasSameRoom (whole_roll self.old).room (whole_roll self.new).room }
         ensures seats { KeepsSeats (whole_seat self.old) (whole_seat self.new) }

@@ -1,14 +1,15 @@
 use Rattle.std.specs.Prelude.{None, false}
+use Rattle.rule_lookup.specs.declared.decision.WhenMissing.TheVariants.{Deny}
 use Rattle.test_programs.proofs.eight_threads.eight_callers_in_threads.Given as goal
 
 abbrev pub ghosts-eight-L-Ledger : goal.ghosts-eight-L-Ledger
 ghosts-eight-L-Ledger g a = record { name = a.places.name; parts = a.places.parts }
 
 abbrev pub ghosts-eight-L-Assumptions : goal.ghosts-eight-L-Assumptions
-ghosts-eight-L-Assumptions g a = record { met = false }
+ghosts-eight-L-Assumptions g a = record { met = false; missing = Deny }
 
 abbrev pub ghosts-eight-N-Ledger : goal.ghosts-eight-N-Ledger
 ghosts-eight-N-Ledger g a = record { name = a.parts.name; parts = a.parts.parts }
 
 abbrev pub ghosts-eight-N-Callers : goal.ghosts-eight-N-Callers
-ghosts-eight-N-Callers g a = record { before = 0; admissions = None }
+ghosts-eight-N-Callers g a = record { before = 0; admissions = None; missing = Deny }

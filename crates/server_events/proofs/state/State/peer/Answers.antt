@@ -2,8 +2,7 @@ use Rattle.std.proofs.Common.{ap, ◌∙◌}
 use Rattle.std.specs.Prelude.{option_map}
 use Rattle.std.specs.BTreeMap.{is_at}
 use Rattle.std.specs.Ordering.{nat_cmp}
-use Rattle.server_events.specs.ServerState.{ServerState}
-use Rattle.server_events.specs.Worlds.{peer_of}
+use Rattle.server_events.specs.ServerState.{ServerState, peer_of}
 use Rattle.server_events.specs.declared.state.Connection.{Connection}
 use Rattle.server_events.proofs.Entries.{finds_serial, lookup-peer_of}
 use Rattle.server_events.proofs.state.State.peer.Goals as goal

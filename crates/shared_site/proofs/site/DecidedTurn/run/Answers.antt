@@ -11,7 +11,7 @@ returns-clause-makes g c =
     let call = c.decided in
     let spoke = c.speaker.ensures in
     made_by c.args.caller (event.Decided (pass_serial pass) c.args.self.decision) c.args.yard.now c.speaker.new.self call.new.self
-    (record { roll = spoke.speaks; beside = spoke.same; seats = spoke.seats }) call.ensures.noted call.ensures.same call.ensures.seats
+    (record { roll = spoke.speaks; beside = spoke.same; seats = spoke.seats }) call.ensures.noted call.ensures.room call.ensures.same call.ensures.seats
 
 pub made-requires : goal.made-requires
 made-requires g c = record {

@@ -5,7 +5,7 @@ use Rattle.server_yard.specs.Leavings.{leaving_event, may_leave}
 use Rattle.server_yard.specs.Yards.{yard_roll, yard_server}
 use Rattle.server_yard.proofs.LeavingEvents.{leaves, leaves_from_none}
 use Rattle.server_yard.proofs.Peopled.{leaver_fits}
-use Rattle.shared_site.proofs.Making.{answered, last_own, made_own, of_connections, stays}
+use Rattle.shared_site.proofs.Making.{answered, last_own, made_own, not_made, of_connections, stays}
 use Rattle.shared_site.proofs.site.LeftTurn.run.Goals as goal
 
 pub left-requires : goal.left-requires
@@ -27,7 +27,7 @@ returns-clause-makes g c =
     let at = c.speak_at.ensures.stays (may_leave c.args.self.leaving) (leaves_from_none c.args.self.leaving) (sym c.may_be.ensures ∙ (search rules)) in
     let call = c.left in
     made_own c.args.caller (leaving_event c.args.self.leaving) _ c.args.self.serial c.args.yard.now c.speak_at.new.yard call.new.self
-    at.has_serial c.speak_at.ensures.spoken call.ensures.noted call.ensures.same call.ensures.seats
+    at.has_serial c.speak_at.ensures.spoken call.ensures.noted call.ensures.room call.ensures.same call.ensures.seats
 
 pub returns-clause-answers : goal.returns-clause-answers
 returns-clause-answers g c =
@@ -53,3 +53,7 @@ returns-then-not-may_be-clause-in_turn g c = (λ ok. absurd (cc), λ at. let is 
 
 pub returns-then-not-may_be-clause-notes : goal.returns-then-not-may_be-clause-notes
 returns-then-not-may_be-clause-notes g c = stays c.args.caller (yard_roll c.args.yard.now) (yard_roll c.speak_at.new.yard) c.speak_at.ensures.spoken.roll
+
+pub returns-then-not-may_be-clause-makes : goal.returns-then-not-may_be-clause-makes
+returns-then-not-may_be-clause-makes g c =
+    not_made c.args.caller (leaving_event c.args.self.leaving c.args.self.serial) c.args.yard.now c.speak_at.new.yard c.speak_at.ensures.spoken

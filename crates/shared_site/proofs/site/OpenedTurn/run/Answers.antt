@@ -14,7 +14,7 @@ returns-clause-makes g c =
     made_by c.args.caller (event.Opened c.args.self.serial (is_some file)) c.args.yard.now c.speaker.new.self call.new.self
     (record { roll = spoke.speaks; beside = spoke.same; seats = spoke.seats })
     (subst (λ (found : Option _). Notes (event.Opened c.args.self.serial (is_some found)) (yard_roll c.speaker.new.self) (yard_roll call.new.self)) call.ensures.found call.ensures.noted)
-    call.ensures.same call.ensures.seats
+    call.ensures.room call.ensures.same call.ensures.seats
 
 pub made-requires : goal.made-requires
 made-requires g c = record {

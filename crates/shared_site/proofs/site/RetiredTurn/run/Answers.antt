@@ -3,7 +3,7 @@ use Rattle.server_events.specs.ServerState.{is_started}
 use Rattle.server_events.specs.declared.event.Event.TheVariants as event
 use Rattle.server_yard.specs.Yards.{yard_roll}
 use Rattle.shared_site.specs.Turns.{IsAt}
-use Rattle.shared_site.proofs.Making.{answered, last_own, made_own, started_is, stays}
+use Rattle.shared_site.proofs.Making.{answered, last_own, made_own, not_made, started_is, stays}
 use Rattle.shared_site.proofs.site.RetiredTurn.run.Goals as goal
 
 pub retired-requires : goal.retired-requires
@@ -25,7 +25,7 @@ returns-clause-makes g c =
     let at = subst (λ (i : ℕ). IsAt is_started c.args.self.serial c.speak_at.new.yard i) c.place.ensures (c.speak_at.ensures.stays is_started refl (sym c.is_started.ensures ∙ (search rules))) in
     let call = c.retired in
     made_own c.args.caller (λ (n : ℕ). event.Retired n) _ c.args.self.serial c.args.yard.now c.speak_at.new.yard call.new.self
-    at.has_serial c.speak_at.ensures.spoken call.ensures.noted call.ensures.same call.ensures.seats
+    at.has_serial c.speak_at.ensures.spoken call.ensures.noted call.ensures.room call.ensures.same call.ensures.seats
 
 pub returns-clause-answers : goal.returns-clause-answers
 returns-clause-answers g c =
@@ -43,3 +43,7 @@ returns-clause-notes g c = (refl, (returns-clause-makes g c).noted, tt)
 
 pub returns-then-not-is_started-clause-notes : goal.returns-then-not-is_started-clause-notes
 returns-then-not-is_started-clause-notes g c = stays c.args.caller (yard_roll c.args.yard.now) (yard_roll c.speak_at.new.yard) c.speak_at.ensures.spoken.roll
+
+pub returns-then-not-is_started-clause-makes : goal.returns-then-not-is_started-clause-makes
+returns-then-not-is_started-clause-makes g c =
+    not_made c.args.caller (event.Retired c.args.self.serial) c.args.yard.now c.speak_at.new.yard c.speak_at.ensures.spoken

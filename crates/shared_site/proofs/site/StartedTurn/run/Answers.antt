@@ -3,7 +3,7 @@ use Rattle.server_events.specs.ServerState.{is_allowed}
 use Rattle.server_events.specs.declared.event.Event.TheVariants as event
 use Rattle.server_yard.specs.Yards.{yard_roll}
 use Rattle.shared_site.specs.Turns.{IsAt}
-use Rattle.shared_site.proofs.Making.{answered, last_own, made_own, stays}
+use Rattle.shared_site.proofs.Making.{answered, last_own, made_own, not_made, stays}
 use Rattle.shared_site.proofs.site.StartedTurn.run.Goals as goal
 
 pub started-requires : goal.started-requires
@@ -25,7 +25,7 @@ returns-clause-makes g c =
     let at = subst (λ (i : ℕ). IsAt is_allowed c.args.self.serial c.speak_at.new.yard i) c.place.ensures (c.speak_at.ensures.stays is_allowed refl (sym c.is_allowed.ensures ∙ (search rules))) in
     let call = c.started in
     made_own c.args.caller (λ (n : ℕ). event.Started n) _ c.args.self.serial c.args.yard.now c.speak_at.new.yard call.new.self
-    at.has_serial c.speak_at.ensures.spoken call.ensures.noted call.ensures.same call.ensures.seats
+    at.has_serial c.speak_at.ensures.spoken call.ensures.noted call.ensures.room call.ensures.same call.ensures.seats
 
 pub returns-clause-answers : goal.returns-clause-answers
 returns-clause-answers g c =
@@ -43,3 +43,7 @@ returns-clause-notes g c = (refl, (returns-clause-makes g c).noted, tt)
 
 pub returns-then-not-is_allowed-clause-notes : goal.returns-then-not-is_allowed-clause-notes
 returns-then-not-is_allowed-clause-notes g c = stays c.args.caller (yard_roll c.args.yard.now) (yard_roll c.speak_at.new.yard) c.speak_at.ensures.spoken.roll
+
+pub returns-then-not-is_allowed-clause-makes : goal.returns-then-not-is_allowed-clause-makes
+returns-then-not-is_allowed-clause-makes g c =
+    not_made c.args.caller (event.Started c.args.self.serial) c.args.yard.now c.speak_at.new.yard c.speak_at.ensures.spoken

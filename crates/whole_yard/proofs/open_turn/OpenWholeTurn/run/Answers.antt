@@ -1,6 +1,6 @@
 use Rattle.std.proofs.Common.{inr, refl, sym, ap, subst, ◌∙◌, rules}
 use Rattle.std.specs.Prelude.{is_some}
-use Rattle.server_events.specs.Worlds.{missing_by}
+use Rattle.headline.specs.Worlds.{missing_by}
 use Rattle.server_events.specs.declared.event.Event.TheVariants as event
 use Rattle.server_yard.specs.Passes.{pass_bytes, pass_file}
 use Rattle.whole_yard.specs.Standing.{LeadsOpened, Matches, YardState, standing_of}

@@ -13,6 +13,7 @@ invariant_of-self g c =
     record {
       honest = old.honest;
       missing = ran.same.missing ∙ old.missing;
+      told = old.told;
       phase = old.phase ∙ sym (phase_told _ _ before after ran.notes);
       going = old.going;
       finds = old.finds;

@@ -1,6 +1,6 @@
 use Rattle.std.proofs.Common.{List, ℕ, Option, inr, refl, sym, ap, subst, ◌∙◌}
 use Rattle.std.specs.Prelude.{option_and_then}
-use Rattle.server_events.specs.Worlds.{RulesName}
+use Rattle.headline.specs.Worlds.{RulesName}
 use Rattle.dir_calls.specs.Directory.{Directory, content}
 use mathlib.Core.Logic.{∥∥₁_map}
 use Rattle.server_yard.specs.Yards.{yard_server}

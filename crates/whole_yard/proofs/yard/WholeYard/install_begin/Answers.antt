@@ -59,6 +59,7 @@ invariant_of-self g c =
     record {
       honest = old.honest;
       missing = made.ensures.missing ∙ old.missing;
+      told = old.told;
       phase = ap phase_of kept ∙ reached ∙ sym (ap (λ (u : ServerState). u.phase) noted.happens ∙ ap phase_after is);
       going = λ x same. subst (λ (u : Installing). IsGoing u rules) (same_some t x (sym kept ∙ same)) (going_at s t rules Fresh (λ e. absurd (cc)) c.in-Ok.ensures.same (named_by rules s.names.cdb may.for_rules) (λ none. none_not_some r.0 (sym none ∙ r.1)) goes.2 reached);
       finds = λ honest x same. subst (λ (u : Installing). Fits u (state made.new.dir)) (same_some t x (sym kept ∙ same)) (c.in-Ok.ensures.fits honest);
@@ -88,6 +89,7 @@ invariant_of-self-then-is_of_disk g c =
     record {
       honest = old.honest;
       missing = made.ensures.missing ∙ old.missing;
+      told = old.told;
       phase = ap phase_of none ∙ sym (disk_phase fault (yard_roll old.yard) (yard_roll made.new.yard) disk c.in-Err.ensures.noted);
       going = λ x same. absurd (none_not_some x (sym none ∙ same));
       finds = λ honest x same. absurd (none_not_some x (sym none ∙ same));
@@ -151,6 +153,7 @@ invariant_of-self-else-is_of_disk g c =
     record {
       honest = old.honest;
       missing = made.ensures.missing ∙ old.missing;
+      told = old.told;
       phase = old.phase ∙ sym (ap (λ (u : ServerState). u.phase) quiet.stays);
       going = old.going;
       finds = λ honest x same. subst (λ (d : Directory). Fits x d) (sym (c.in-Err.ensures.still honest (none_event fault other))) (old.finds honest x same);

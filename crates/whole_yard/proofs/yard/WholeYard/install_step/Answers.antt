@@ -46,6 +46,7 @@ invariant_of-self g c =
     record {
       honest = old.honest;
       missing = old.missing;
+      told = old.told;
       phase = ap phase_of same ∙ old.phase;
       going = λ x is. old.going x (sym same ∙ is);
       finds = λ honest x is. old.finds honest x (sym same ∙ is);
@@ -59,6 +60,7 @@ invariant_of-self-in-AtDone g c =
     record {
       honest = old.honest;
       missing = old.missing;
+      told = old.told;
       phase = ap phase_of same ∙ old.phase;
       going = λ x is. old.going x (sym same ∙ is);
       finds = λ honest x is. old.finds honest x (sym same ∙ is);
@@ -80,6 +82,7 @@ invariant_of-self-in-UnderWay g c =
     record {
       honest = old.honest;
       missing = made.ensures.missing ∙ old.missing;
+      told = old.told;
       phase = ap phase_of kept ∙ phase_then s t (next_phase s) result (yard_roll old.yard) (yard_roll made.new.yard) made.ensures.noted made.ensures.goes (sym (ap phase_of inst) ∙ old.phase);
       going = λ x is. going_then s t (next_phase s) result (rules_of old.rules) made.ensures.same going.for_rules going.follows (λ none. going) made.ensures.goes x (sym kept ∙ is);
       finds = λ honest x is. subst (λ (u : Installing). Fits u (state made.new.dir)) (kept_is t x result (sym kept ∙ is)) (made.ensures.fits honest);

@@ -16,7 +16,8 @@ invariant_of-result g c =
     let none = c.requires.journal in
     record {
       honest = λ met. (c.requires.begins met).0;
-      missing = made.has_missing ∙ c.missing_of-missing.ensures;
+      missing = made.has_missing ∙ c.missing_of-missing.ensures ∙ c.requires.missing;
+      told = c.requires.missing;
       phase = sym (ap (λ (u : ServerState). u.phase) server);
       going = λ s is. absurd (none_not_some s is);
       finds = λ honest s is. absurd (none_not_some s is);

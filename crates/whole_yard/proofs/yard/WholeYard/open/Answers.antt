@@ -1,8 +1,8 @@
 use Rattle.std.proofs.Common.{◌≡◌, ◌⊎◌, Bool, ap, refl, sym, subst, ◌∙◌}
 use Rattle.std.specs.Prelude.{is_some, option_map}
 use Rattle.dir_calls.specs.Images.{IsImage}
-use Rattle.server_events.specs.Steps.{MayLeave}
-use Rattle.server_events.specs.Worlds.{missing_by}
+use Rattle.headline.specs.Steps.{MayLeave}
+use Rattle.headline.specs.Worlds.{missing_by}
 use Rattle.server_events.specs.declared.event.Event.TheVariants as event
 use Rattle.server_yard.specs.Passes.{pass_bytes, pass_file}
 use Rattle.server_yard.specs.Rolls.{Notes, Roll}

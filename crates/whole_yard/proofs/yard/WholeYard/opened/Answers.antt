@@ -3,7 +3,7 @@ use mathlib.Core.Logic.{∥∥₁_map}
 use Rattle.std.specs.Prelude.{is_some}
 use Rattle.server_events.specs.ServerState.{ServerState}
 use Rattle.server_events.specs.declared.event.Event.TheVariants as event
-use Rattle.server_events.proofs.WovenSteps.{phase_stays}
+use Rattle.headline.proofs.WovenSteps.{phase_stays}
 use Rattle.server_yard.specs.Passes.{pass_file}
 use Rattle.server_yard.specs.Yards.{yard_roll, yard_server}
 use Rattle.whole_yard.proofs.Keeping.{kept_on, one_more_of}
@@ -17,6 +17,7 @@ invariant_of-self g c =
     record {
       honest = old.honest;
       missing = call.same.missing ∙ old.missing;
+      told = old.told;
       phase = old.phase ∙ sym (ap (λ (u : ServerState). u.phase) call.noted.happens ∙ phase_stays (yard_server old.yard) e refl);
       going = old.going;
       finds = old.finds;
@@ -24,4 +25,4 @@ invariant_of-self g c =
     }
 
 pub returns-clause-missing : goal.returns-clause-missing
-returns-clause-missing g c = c.opened.ensures.missing ∙ c.args.self.now.missing
+returns-clause-missing g c = c.opened.ensures.missing ∙ c.args.self.now.missing ∙ sym c.args.self.now.told

@@ -1,5 +1,0 @@
-use Rattle.server_events.proofs.WithinLemmas.{moved_within}
-use Rattle.server_events.proofs.laws.opened_within.Goals as goal
-
-pub returns : goal.returns
-returns c w v n bytes finds admitted = moved_within w v n bytes finds admitted
