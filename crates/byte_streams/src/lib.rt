@@ -1,11 +1,11 @@
 //! A pump: it reads a stream, passes it through a chain of line wrappers and writes it out, while a tap looks on.
 //!
 //! The crates above use `pump` and `pump_counted`: what was written is what the chain makes of what was read, as far as
-//! the end says. Who must look at something else between two reads uses `pump_once`, which reads once at most, into room
-//! that `new_room` made and that is kept from call to call. By the contract of `LineWrapper` what a wrapper writes
+//! the end says. Who must look at something else between two reads uses `pump_once`, which reads once at most, into
+//! room that `new_room` made and that is kept from call to call. By the contract of `LineWrapper` what a wrapper writes
 //! doesn't depend on how the input is cut. A chain is generic over its kind of wrapper. A `Recorder` is the tap of
-//! `recordio`. Only tests show that a fault is one of the reader or the writer, and that a `Patient` stream waits as long
-//! as it should.
+//! `recordio`. Only tests show that a fault is one of the reader or the writer, and that a `Patient` stream waits as
+//! long as it should.
 #![tactic(auto)]
 
 pub mod chain;

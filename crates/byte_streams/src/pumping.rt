@@ -53,8 +53,8 @@ pub struct PumpEnd {
 
 /// Reads a stream, passes each piece through the chain, and writes what the chain gives before it reads again.
 ///
-/// It reads at most `most_reads` times. An interrupted read counts, with nothing read; an interrupted write is tried again.
-/// At the end of the reader the chain is finished and its rest is written. The tap sees each piece before it is
+/// It reads at most `most_reads` times. An interrupted read counts, with nothing read; an interrupted write is tried
+/// again. At the end of the reader the chain is finished and its rest is written. The tap sees each piece before it is
 /// written, and the end.
 ///
 /// The end says what was written. At `ReadFault` and `ReadsOver` the chain is not finished, and all that it gave was
@@ -93,8 +93,8 @@ pub fn new_room(alloc: Global) -> Result<Vec<u8>, AllocError>
 /// Pumps a stream as `pump` does, with one read at most, into room that its caller keeps from call to call.
 ///
 /// So a caller can see to something else between two reads: at `ReadsOver` the read was made, what the chain gave was
-/// written, and the next call goes on there. The room is for reads alone, and nothing of it is used by the next call; it
-/// grows where a read filled it. At every end there is room for the next read.
+/// written, and the next call goes on there. The room is for reads alone, and nothing of it is used by the next call;
+/// it grows where a read filled it. At every end there is room for the next read.
 pub fn pump_once<R: Read, W: Write, S: LineWrapper, T: Tap>(
     alloc: Global,
     reader: &mut R,

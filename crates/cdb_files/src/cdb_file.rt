@@ -129,7 +129,8 @@ impl<F: RulesFile> CdbFile<F> {
         Ok((first, second))
     }
 
-    /// Lets a window have so many bytes from a position on, read in its place where it has not, and no further than an end.
+    /// Lets a window have so many bytes from a position on, read in its place where it has not, and no further than an
+    /// end.
     fn cover(
         &self,
         alloc: Global,
@@ -328,7 +329,8 @@ impl<F: RulesFile> CdbFile<F> {
         }
     }
 
-    /// Where a byte first stands among so many from a position on, counted from there. No more than a piece of them is held.
+    /// Where a byte first stands among so many from a position on, counted from there. No more than a piece of them is
+    /// held.
     fn find_byte(
         &self,
         alloc: Global,
@@ -355,8 +357,8 @@ impl<F: RulesFile> CdbFile<F> {
         Ok(None)
     }
 
-    /// Adds the setting whose code stands at the front of so many bytes from a position on, and answers how long that is.
-    /// Its name and its value are read into the memory that they keep; besides, no more than a piece is held.
+    /// Adds the setting whose code stands at the front of so many bytes from a position on, and answers how long that
+    /// is. Its name and its value are read into the memory that they keep; besides, no more than a piece is held.
     fn push_long(
         &self,
         alloc: Global,
@@ -394,8 +396,8 @@ impl<F: RulesFile> CdbFile<F> {
         }
     }
 
-    /// Adds settings whose codes stand at the front of so many bytes from a position on, one at least, and answers how long
-    /// these codes are.
+    /// Adds settings whose codes stand at the front of so many bytes from a position on, one at least, and answers how
+    /// long these codes are.
     fn push_next(
         &self,
         alloc: Global,
@@ -422,8 +424,8 @@ impl<F: RulesFile> CdbFile<F> {
         self.push_long(alloc, position, len, settings)
     }
 
-    /// The settings whose codes so many bytes from a position on are, decoded as they are read: besides the settings no more
-    /// is held than a piece.
+    /// The settings whose codes so many bytes from a position on are, decoded as they are read: besides the settings no
+    /// more is held than a piece.
     fn settings_at(&self, alloc: Global, position: u64, len: usize) -> Result<Settings, DecideFault>
         requires fits { position + len < 2 ^ 64 }
         requires inside { IsTrue F.honest → position + len ≤ length (F.bytes self.now) }

@@ -24,8 +24,8 @@ pub fn first_pair()
     ensures { (file key : List ℕ) (pairs : List Pair) → IsCdb file pairs → reading file key ≡ first_value pairs key }
 {}
 
-/// In a file that is compiled of a rule text a lookup finds what the list of the text's rules does: the code of the first rule
-/// with the address, or that there is none.
+/// In a file that is compiled of a rule text a lookup finds what the list of the text's rules does: the code of the
+/// first rule with the address, or that there is none.
 pub fn same_as_list()
     ensures { (file text key : List ℕ) → Compiled file text → reading file key ≡ found_among (pairs_of text) key }
 {}

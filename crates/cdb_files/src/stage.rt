@@ -84,8 +84,8 @@ impl Stage {
     }
 }
 
-/// How many bytes at the front of a piece are whole characters, or `None` where what begins with the piece is no text. A piece that is
-/// not the last is longer than a character.
+/// How many bytes at the front of a piece are whole characters, or `None` where what begins with the piece is no text.
+/// A piece that is not the last is longer than a character.
 pub(crate) fn text_front(piece: &[u8], is_last: bool) -> Option<usize>
     requires some { 0 < length piece.now }
     requires long { is_last ≡ false → 4 ≤ length piece.now }

@@ -83,8 +83,8 @@ impl<L: Ledger> Model for PlaceTable<L> {
 }
 
 impl<L: Ledger> PlaceTable<L> {
-    /// An empty table, which gives out at most `limit` places, and at most `per_address` for one address. `blank` has as
-    /// many parts as the limit says.
+    /// An empty table, which gives out at most `limit` places, and at most `per_address` for one address. `blank` has
+    /// as many parts as the limit says.
     ///
     /// # Errors
     /// `ZeroLimit` if the limit is 0; otherwise `ZeroAddressLimit` if the limit per address is 0.

@@ -33,8 +33,8 @@ pub trait Dir {
     /// How often its device has failed, as far as the directory counts.
     ghost failed: { Self → ℕ };
 
-    /// Takes away what stands under a name, and makes a new empty file there, the scratch file. The scratch file before it, if
-    /// there was one, stays unsynced for ever.
+    /// Takes away what stands under a name, and makes a new empty file there, the scratch file. The scratch file before
+    /// it, if there was one, stays unsynced for ever.
     fn fresh(&mut self, alloc: Global, name: &Name) -> Result<(), DirFault>
         ensures does { IsTrue honest → DoesCall state (makes name.now) self.old self.new result }
         ensures faults { IfErr result (Contains (DirFault.Device ∷ DirFault.OutOfMemory ∷ [])) }

@@ -21,8 +21,8 @@ pub trait RulesFile {
     fn len(&self) -> u64
         ensures { IsTrue honest → result ≡ length (bytes self.now) };
 
-    /// Reads bytes from a position on into the front of `buf`, and answers how many. It is 0 only behind the file's end or
-    /// for an empty `buf`, and may be fewer than there are. After a fault `buf` may hold anything.
+    /// Reads bytes from a position on into the front of `buf`, and answers how many. It is 0 only behind the file's end
+    /// or for an empty `buf`, and may be fewer than there are. After a fault `buf` may hold anything.
     fn read_at(&self, position: u64, buf: &mut [u8]) -> Result<usize, DeviceFault>
         ensures room { IfOk result (λ n. n ≤ length buf.old) }
         ensures same_length { length buf.new ≡ length buf.old }

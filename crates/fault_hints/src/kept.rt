@@ -30,7 +30,8 @@ impl<R> KeepingReader<R> {
         }
     }
 
-    /// Puts a line of the text, from 1, into a buffer, where it was kept to its end and there is memory for it; else the buffer is empty.
+    /// Puts a line of the text, from 1, into a buffer, where it was kept to its end and there is memory for it; else
+    /// the buffer is empty.
     pub fn copy_line(&self, number: u64, out: &mut Vec<u8>) {
         out.clear();
         let mut rest = self.kept.as_slice();

@@ -38,8 +38,8 @@ pub const LONG: &str = "a line has at most 65536 bytes";
 /// What a text has to be.
 pub const LONG_TEXT: &str = "a text has at most 67108864 bytes";
 
-/// Appends the line that shows a faulty line of a rule text: what stands before its first colon and behind it, as fields of the log, and what
-/// was expected there.
+/// Appends the line that shows a faulty line of a rule text: what stands before its first colon and behind it, as
+/// fields of the log, and what was expected there.
 ///
 /// # Errors
 /// There was no memory, and nothing was appended.

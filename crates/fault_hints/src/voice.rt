@@ -7,7 +7,8 @@ use server_words::{Level, Mode};
 /// Whom a tool speaks to, by the name by which it was called.
 #[derive(Clone, Copy)]
 pub enum Voice {
-    /// Scripts and readers of the log: `ucspi TOOL` prints the line of a fault, and its cause where its words ask for that.
+    /// Scripts and readers of the log: `ucspi TOOL` prints the line of a fault, and its cause where its words ask for
+    /// that.
     Plain,
     /// A person: a tool that was called by its own name prints causes and hints beside these lines.
     Helpful,

@@ -79,8 +79,8 @@ fn read_value(is_text: bool, bytes: &[u8]) -> Option<(&[u8], &[u8])>
     split_at_mark(quote, &bytes[quote.len()..])
 }
 
-/// The setting at the front of bytes, `NAME` and `=` and a quoted value, or `None` where they begin with none. A quote is a
-/// character in a text, and else a byte.
+/// The setting at the front of bytes, `NAME` and `=` and a quoted value, or `None` where they begin with none. A quote
+/// is a character in a text, and else a byte.
 pub fn first_setting(is_text: bool, bytes: &[u8]) -> Option<FirstSetting<'_>>
     ensures read { MatchOption result
         (setting_at is_text bytes.now ≡ None)
@@ -99,7 +99,8 @@ pub fn first_setting(is_text: bool, bytes: &[u8]) -> Option<FirstSetting<'_>>
 /// Adds the codes of the settings that the bytes are. A quote is a character in a text, and else a byte.
 ///
 /// # Errors
-/// `BadSetting` where they are no series of settings, and `OutOfMemory`. After them `code` may have any more bytes at its end.
+/// `BadSetting` where they are no series of settings, and `OutOfMemory`. After them `code` may have any more bytes at
+/// its end.
 fn append_settings(is_text: bool, bytes: &[u8], code: &mut Vec<u8>) -> Result<(), RuleFault>
     ensures added { OnOk result
         (option_map (λ settings. code.old.items ++ flat_map setting_code settings) (settings_of is_text bytes.now)
@@ -140,7 +141,8 @@ pub fn read_verdict(instructions: &[u8]) -> Option<(Verdict, &[u8])>
 /// Adds the code of the instruction that the bytes say.
 ///
 /// # Errors
-/// `NoVerdict` or `BadSetting` where they say none, and `OutOfMemory`. After them `code` may have any more bytes at its end.
+/// `NoVerdict` or `BadSetting` where they say none, and `OutOfMemory`. After them `code` may have any more bytes at its
+/// end.
 pub(crate) fn append_code(
     is_text: bool,
     instructions: &[u8],

@@ -1,7 +1,8 @@
 //! How long texts, lines and compiled files may be.
 ghost use Rattle.std.specs.Prelude.{◌≡◌};
 
-/// How long a rule text, one of its lines and the compiled file may be, in bytes. A length equal to its limit is allowed.
+/// How long a rule text, one of its lines and the compiled file may be, in bytes. A length equal to its limit is
+/// allowed.
 #[derive(Clone, Copy)]
 pub struct Limits {
     /// The longest rule text.

@@ -15,8 +15,9 @@ use memchr::memchr;
 use std::alloc::{AllocError, Global};
 use std::marker::Model;
 
-/// The rules of a text in order, one for each address. The list keeps the text, with the code of each instruction in its place, and
-/// reads a rule out of it when it is asked for: so it takes less memory than the text, however many rules that has.
+/// The rules of a text in order, one for each address. The list keeps the text, with the code of each instruction in
+/// its place, and reads a rule out of it when it is asked for: so it takes less memory than the text, however many
+/// rules that has.
 #[derive(Drop)]
 pub struct RuleList {
     kept: Vec<u8>,
@@ -149,8 +150,8 @@ impl RuleList {
         let _ = &self.kept;
     }
 
-    /// Puts the rule at position `i`, from 0, into `rule`, and says whether there is one. Where rules are written one after another, each
-    /// line is read once for each of its rules.
+    /// Puts the rule at position `i`, from 0, into `rule`, and says whether there is one. Where rules are written one
+    /// after another, each line is read once for each of its rules.
     ///
     /// # Errors
     /// There was no memory. `rule` may have any bytes then.

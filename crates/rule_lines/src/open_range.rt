@@ -9,8 +9,8 @@ use crate::spread::{Numbers, ReadAddress, number_at};
 use itoa::Buffer;
 use std::alloc::{AllocError, Global};
 
-/// The parts of a range line whose rules are being written, so that the line is not read again for each of them. It is closed where it has no
-/// numbers.
+/// The parts of a range line whose rules are being written, so that the line is not read again for each of them. It is
+/// closed where it has no numbers.
 #[derive(Drop)]
 pub(crate) struct OpenRange {
     /// How many rules the lines before its own have.
@@ -90,7 +90,8 @@ impl OpenRange {
         }
     }
 
-    /// Writes the rule with the address at a position in place of the bytes of `rule`. After an `Err` any bytes stand there.
+    /// Writes the rule with the address at a position in place of the bytes of `rule`. After an `Err` any bytes stand
+    /// there.
     pub(crate) fn write(&self, position: usize, rule: &mut StoredRule) -> Result<(), AllocError>
         requires { position < self.now.numbers.count }
         ensures key { OnOk result (rule.new.key.items
@@ -112,8 +113,8 @@ fn overwrite(out: &mut Vec<u8>, bytes: &[u8]) -> Result<(), AllocError>
     out.extend_from_slice(bytes)
 }
 
-/// Adds an address of a range: what stands before the number, the number, and what stands after it. After an `Err` there may be any more bytes
-/// at the end.
+/// Adds an address of a range: what stands before the number, the number, and what stands after it. After an `Err`
+/// there may be any more bytes at the end.
 pub(crate) fn append_numbered(
     out: &mut Vec<u8>,
     front: &[u8],

@@ -76,8 +76,8 @@ fn read_range(address: &[u8], dash: usize) -> Option<ReadAddress<'_>>
     })
 }
 
-/// The parts of a range: what stands before the number at the left of the first `-`, the two numbers, and what stands after
-/// the number at its right.
+/// The parts of a range: what stands before the number at the left of the first `-`, the two numbers, and what stands
+/// after the number at its right.
 #[derive(Clone, Copy)]
 struct RangeParts<'a> {
     front: &'a [u8],
@@ -86,8 +86,8 @@ struct RangeParts<'a> {
     back: &'a [u8],
 }
 
-/// The parts of a range, whose first `-` stands at `dash`: the left number reaches back to the last dot, the right one to the
-/// next.
+/// The parts of a range, whose first `-` stands at `dash`: the left number reaches back to the last dot, the right one
+/// to the next.
 fn cut_range(address: &[u8], dash: usize) -> RangeParts<'_>
     requires inside { dash < length address.now }
     requires first { dash ≡ position_or_len (λ b. b == 45) address.now }
@@ -147,8 +147,8 @@ fn numbers_between(low: u32, high: u32) -> Numbers
     }
 }
 
-/// The value of decimal digits, maybe none, if it is within `u32`: of none it is 0. Nothing where a byte is no digit or the
-/// value is larger.
+/// The value of decimal digits, maybe none, if it is within `u32`: of none it is 0. Nothing where a byte is no digit or
+/// the value is larger.
 pub fn number(part: &[u8]) -> Option<u32>
     ensures { MatchOption result
         (is_number part.now ≡ false)

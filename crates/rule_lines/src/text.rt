@@ -93,7 +93,8 @@ fn accept_lines(alloc: Global, text: &[u8], plain: bool, limit: u64) -> Result<(
     Ok(())
 }
 
-/// Puts the kept lines of a text in its place, and tells the tally of their rules. In a text that is `plain` no line is looked at for that.
+/// Puts the kept lines of a text in its place, and tells the tally of their rules. In a text that is `plain` no line is
+/// looked at for that.
 fn keep_lines(text: &mut Vec<u8>, plain: bool, limit: u64) -> Result<Tally, ParseFault>
     requires { plain ≡ true → IsPlain text.old.items }
     ensures faultless { OnOk result (first_faulty limit 1 (lines_of text.old.items) ≡ None) }
@@ -135,8 +136,8 @@ fn overwrite(text: &mut Vec<u8>, position: usize, bytes: &[u8])
     text[position..position + bytes.len()].copy_from_slice(bytes);
 }
 
-/// Puts what is kept of a trimmed line in place of the bytes of `kept`, and tells the tally of its rules. A line that is `plain` is text without
-/// a zero byte; of any other that is not known.
+/// Puts what is kept of a trimmed line in place of the bytes of `kept`, and tells the tally of its rules. A line that
+/// is `plain` is text without a zero byte; of any other that is not known.
 ///
 /// # Errors
 /// The least kind for which the line is faulty, and `OutOfMemory`.

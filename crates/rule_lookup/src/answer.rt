@@ -6,8 +6,8 @@ use crate::instr::{Setting, Settings, Verdict};
 use crate::{Decision, Found};
 use std::alloc::AllocError;
 
-/// Adds the lines that tell a decision: the rule's address or the default, the settings of an allowed connection, and the
-/// verdict. After an `Err` a part of them may stand at the end of `out`.
+/// Adds the lines that tell a decision: the rule's address or the default, the settings of an allowed connection, and
+/// the verdict. After an `Err` a part of them may stand at the end of `out`.
 pub fn append_answer(out: &mut Vec<u8>, decision: &Decision) -> Result<(), AllocError>
     ensures { OnOk result (out.new.items ≡ out.old.items ++ answer_lines decision.now) }
 {

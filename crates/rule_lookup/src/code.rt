@@ -127,8 +127,8 @@ fn read_setting(piece: &[u8]) -> Option<(&str, &str)>
     read_assignment(assignment)
 }
 
-/// Adds the settings that stand whole at the front of the codes, and gives what is left: a part of the next one, or nothing.
-/// After an `Err` some may have been added.
+/// Adds the settings that stand whole at the front of the codes, and gives what is left: a part of the next one, or
+/// nothing. After an `Err` some may have been added.
 pub fn push_settings<'a>(
     alloc: Global,
     codes: &'a [u8],
@@ -159,8 +159,8 @@ fn own_text(bytes: Vec<u8>) -> Option<String>
     String::from_utf8(bytes).ok()
 }
 
-/// Adds the setting of a name without a `=` and of a value. Both are given away, so that neither stands in memory twice.
-/// After an `Err` nothing was added.
+/// Adds the setting of a name without a `=` and of a value. Both are given away, so that neither stands in memory
+/// twice. After an `Err` nothing was added.
 pub fn push_parts(name: Vec<u8>, value: Vec<u8>, settings: &mut Settings) -> Result<(), DecodeFault>
     requires name { (has_byte 61 name.items ≡ false) × (has_byte 0 name.items ≡ false) }
     requires value { has_byte 0 value.items ≡ false }
@@ -196,8 +196,8 @@ fn decode_settings(alloc: Global, codes: &[u8]) -> Result<Settings, DecodeFault>
     Ok(settings)
 }
 
-/// The instruction whose code the bytes are; no code is that of two. `NotCode` comes exactly for bytes that are the code
-/// of none.
+/// The instruction whose code the bytes are; no code is that of two. `NotCode` comes exactly for bytes that are the
+/// code of none.
 pub fn decode_instr(alloc: Global, bytes: &[u8]) -> Result<Instr, DecodeFault>
     ensures found { IfOk result (λ instr. IsInstr instr × (code_of instr ≡ bytes.now)) }
     ensures refused { IfErr result (RefusesCode bytes.now) }

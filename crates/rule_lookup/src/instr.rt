@@ -56,8 +56,8 @@ impl Setting {
     }
 }
 
-/// The settings of an instruction, in order. Each name is not empty and has no `=`; names and values are UTF-8 without a
-/// zero byte.
+/// The settings of an instruction, in order. Each name is not empty and has no `=`; names and values are UTF-8 without
+/// a zero byte.
 #[derive(Drop)]
 pub struct Settings {
     list: Vec<Setting>,

@@ -46,8 +46,8 @@ pub struct RuleFindings {
     decided_by: Option<u64>,
 }
 
-/// What is found in a trimmed line with this number, behind lines whose addresses were seen; its own are seen from then on.
-/// The bytes of `buffer` are overwritten. After an `Err` some of its addresses may be seen.
+/// What is found in a trimmed line with this number, behind lines whose addresses were seen; its own are seen from then
+/// on. The bytes of `buffer` are overwritten. After an `Err` some of its addresses may be seen.
 pub fn look_at<'a>(
     alloc: Global,
     line: &'a [u8],
@@ -177,8 +177,8 @@ fn decider(
     Ok(least)
 }
 
-/// The first line that decides one of the addresses, where each of them was seen in a line; they are seen from then on. After
-/// an `Err` some of them may be.
+/// The first line that decides one of the addresses, where each of them was seen in a line; they are seen from then on.
+/// After an `Err` some of them may be.
 fn decide<'a>(
     alloc: Global,
     addresses: ReadAddress<'a>,

@@ -6,8 +6,8 @@ use crate::client::octets_of;
 use std::alloc::{AllocError, Global};
 use std::collections::HashMap;
 
-/// Addresses that stand in a text, each with the number of its line. One that is a whole IPv4 address is kept as its four numbers: so it takes little
-/// more than half of the memory of any other.
+/// Addresses that stand in a text, each with the number of its line. One that is a whole IPv4 address is kept as its
+/// four numbers: so it takes little more than half of the memory of any other.
 #[derive(Drop)]
 pub struct Lent<'a> {
     /// Whole IPv4 addresses.

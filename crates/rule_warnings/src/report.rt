@@ -39,8 +39,8 @@ impl From<AllocError> for WarnFault {
     }
 }
 
-/// Writes the warnings of an accepted text, a line each, in the order of its lines, and tells whether there was one. Behind them
-/// stands whether a rule is by name, which is no warning of a line.
+/// Writes the warnings of an accepted text, a line each, in the order of its lines, and tells whether there was one.
+/// Behind them stands whether a rule is by name, which is no warning of a line.
 ///
 /// # Errors
 /// In the order of `WarnFault`.

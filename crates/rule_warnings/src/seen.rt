@@ -22,7 +22,8 @@ pub struct Seen<'a> {
 }
 
 impl<'a> Seen<'a> {
-    /// No addresses, with room for so many that stand in the text and are no whole IPv4 addresses: what grows stands twice for a moment.
+    /// No addresses, with room for so many that stand in the text and are no whole IPv4 addresses: what grows stands
+    /// twice for a moment.
     pub fn with_room(alloc: Global, texts: usize) -> Result<Seen<'a>, AllocError>
         ensures { IfOk result (λ seen. (address : List ℕ) → line_under seen address ≡ None) }
     {
@@ -96,8 +97,8 @@ impl<'a> Seen<'a> {
         }
     }
 
-    /// Notes that a line has an address that was made: where none had it before, it is the first. For want of memory nothing
-    /// is noted.
+    /// Notes that a line has an address that was made: where none had it before, it is the first. For want of memory
+    /// nothing is noted.
     pub fn note_made(&mut self, alloc: Global, address: &[u8], line: u64) -> Result<(), AllocError>
         ensures { OnOk result ((other : List ℕ) → line_under self.new other
             ≡ noted (line_under self.old) address.now line other) }
@@ -108,8 +109,8 @@ impl<'a> Seen<'a> {
         Ok(())
     }
 
-    /// Notes that a line has an address that stands in the text, and that none had before. For want of memory nothing is
-    /// noted.
+    /// Notes that a line has an address that stands in the text, and that none had before. For want of memory nothing
+    /// is noted.
     pub fn note_lent(
         &mut self,
         alloc: Global,
@@ -126,8 +127,8 @@ impl<'a> Seen<'a> {
         }
     }
 
-    /// Notes that a line has the addresses of a range, and that no line noted so far comes after it. For want of memory the
-    /// ranges with the same parts may be lost.
+    /// Notes that a line has the addresses of a range, and that no line noted so far comes after it. For want of memory
+    /// the ranges with the same parts may be lost.
     pub fn note_range(
         &mut self,
         alloc: Global,

@@ -77,8 +77,8 @@ fn has_number(numbers: Numbers, number: u8) -> bool
         && u16::from(number) < u16::from(numbers.first).saturating_add(numbers.count)
 }
 
-/// Whether a range is one that addresses are cut for: its numbers are a whole part between dots, at most 255, and no `-` stands
-/// before them.
+/// Whether a range is one that addresses are cut for: its numbers are a whole part between dots, at most 255, and no
+/// `-` stands before them.
 pub fn is_cut(front: &[u8], numbers: Numbers, back: &[u8]) -> bool
     ensures { result ≡ is_cut front.now numbers back.now }
 {
@@ -95,8 +95,8 @@ fn is_front(front: &[u8]) -> bool
     (front.is_empty() || front.ends_with(b".")) && !contains(front, b'-')
 }
 
-/// The cut of an address around the number that begins there, as a whole part between dots: nothing where there is none, or a
-/// `-` before it.
+/// The cut of an address around the number that begins there, as a whole part between dots: nothing where there is
+/// none, or a `-` before it.
 pub fn cut_at(address: &[u8], start: usize) -> Option<Cut<'_>>
     requires { start ≤ length address.now }
     ensures { MatchOption result (cut_at address.now start ≡ None)

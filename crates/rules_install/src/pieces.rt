@@ -84,8 +84,8 @@ impl Pieces {
         &self.list
     }
 
-    /// Replaces the bytes of `piece` by those of the piece at a position, if there is one, and answers the position of the
-    /// next. The bytes of `rule` are overwritten.
+    /// Replaces the bytes of `piece` by those of the piece at a position, if there is one, and answers the position of
+    /// the next. The bytes of `rule` are overwritten.
     ///
     /// # Errors
     /// There was no memory. `piece` has no bytes then.

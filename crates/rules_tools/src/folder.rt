@@ -13,8 +13,8 @@ use std::alloc::Global;
 pub struct RulesFolder<D> {
     /// Its directory.
     pub dir: D,
-    /// Why the last scratch file that was to be taken away may stand still: `Device` or `OutOfMemory`; or `None` if it is gone, or none was
-    /// to be taken away.
+    /// Why the last scratch file that was to be taken away may stand still: `Device` or `OutOfMemory`; or `None` if it
+    /// is gone, or none was to be taken away.
     pub left: Option<DirFault>,
 }
 
@@ -32,8 +32,9 @@ impl<D: Drop> RulesFolder<D> {
 impl<D: ClearableDir> RulesFolder<D> {
     ghost use Rattle.rules_tools.specs.FolderParts.{folder_dir, folder_left};
 
-    /// Takes what stands under the scratch name away, as well as that can be done: a fault of that is noted (`left`). Each other name stands for
-    /// the file that it stood for, and what lasts there stands there whenever the machine stops meanwhile.
+    /// Takes what stands under the scratch name away, as well as that can be done: a fault of that is noted (`left`).
+    /// Each other name stands for the file that it stood for, and what lasts there stands there whenever the machine
+    /// stops meanwhile.
     pub fn remove_scratch(&mut self, alloc: Global, scratch: &Name)
         ensures others { IsTrue D.honest → SparesOthers
             scratch.now (D.state (folder_dir self.old)) (D.state (folder_dir self.new)) }

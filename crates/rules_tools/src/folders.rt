@@ -29,7 +29,8 @@ pub trait Folders {
     /// The folder at a path.
     ///
     /// # Errors
-    /// `NoFolder` where nothing stands there, or no folder; `Device` where it isn't told what stands there; `OutOfMemory`.
+    /// `NoFolder` where nothing stands there, or no folder; `Device` where it isn't told what stands there;
+    /// `OutOfMemory`.
     fn find(&mut self, alloc: Global, path: &str) -> Result<Self::Folder, FolderFault>
         ensures found { IsTrue honest → IfOk result (λ folder.
             stands self.old path.now ≡ Some (Self.Folder.state folder)) }

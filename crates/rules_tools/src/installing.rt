@@ -21,14 +21,14 @@ use rules_install::{FileNames, Install, InstallFault};
 use std::alloc::Global;
 use std::io::Read;
 
-/// Reads a rule text to its end, compiles it, and installs the compiled file in a folder, under the last part of the path `cdb`, with the last
-/// part of `tmp` as its scratch name. The folder has to be that of both paths.
+/// Reads a rule text to its end, compiles it, and installs the compiled file in a folder, under the last part of the
+/// path `cdb`, with the last part of `tmp` as its scratch name. The folder has to be that of both paths.
 ///
 /// # Errors
-/// In the order of `TcprulesFault`. After those that stand above `Device` there nothing was touched in the folder. After
-/// `Device` and `OutOfMemory` the rules file is the old one, or with the phases `Named` and `Done` possibly the new one. After a fault of the
-/// disk on the way to any phase the scratch file is taken away, as well as that can be done, and else the folder notes why not
-/// (`RulesFolder::left`); after want of memory it may be left.
+/// In the order of `TcprulesFault`. After those that stand above `Device` there nothing was touched in the folder.
+/// After `Device` and `OutOfMemory` the rules file is the old one, or with the phases `Named` and `Done` possibly the
+/// new one. After a fault of the disk on the way to any phase the scratch file is taken away, as well as that can be
+/// done, and else the folder notes why not (`RulesFolder::left`); after want of memory it may be left.
 pub fn install_text<R: Read, D: ClearableDir>(
     alloc: Global,
     reader: &mut R,
@@ -91,7 +91,8 @@ fn compile<R: Read>(
     Ok(Install::begin(alloc, list, names, &limits)?)
 }
 
-/// Installs what was compiled: makes all steps. After a fault of the disk what stands under the scratch name is taken away.
+/// Installs what was compiled: makes all steps. After a fault of the disk what stands under the scratch name is taken
+/// away.
 fn install_begun<D: ClearableDir>(
     alloc: Global,
     folder: &mut RulesFolder<D>,

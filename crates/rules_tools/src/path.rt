@@ -2,8 +2,8 @@
 ghost use Rattle.std.specs.Prelude.{◌≡◌};
 ghost use Rattle.rules_tools.specs.Paths.{IsSplit, folder_path};
 
-/// The folder of a path and its last part: what stands before its last slash and after that. Without a slash the folder is `.`; of `/rules`
-/// it is the empty text, which stands for the root folder.
+/// The folder of a path and its last part: what stands before its last slash and after that. Without a slash the folder
+/// is `.`; of `/rules` it is the empty text, which stands for the root folder.
 pub fn split_path(path: &str) -> (&str, &str)
     ensures { IsSplit path.now result.0.now result.1.now }
 {

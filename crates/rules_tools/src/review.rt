@@ -49,10 +49,12 @@ impl From<WarnFault> for ReviewFault {
     }
 }
 
-/// Reads a rule text, writes its warnings to `errors`, a line each, and tells whether there was one. Nothing on the disk is touched.
+/// Reads a rule text, writes its warnings to `errors`, a line each, and tells whether there was one. Nothing on the
+/// disk is touched.
 ///
 /// # Errors
-/// In the order of `ReviewFault`. After `ReadFault` and `Text` nothing was written, and after the others some warnings may be.
+/// In the order of `ReviewFault`. After `ReadFault` and `Text` nothing was written, and after the others some warnings
+/// may be.
 pub fn run_review<R: Read, W: Write>(
     alloc: Global,
     reader: &mut R,

@@ -14,9 +14,10 @@ use dir_calls::{Dir, Phase};
 use rules_install::{Install, InstallFault, whole};
 use std::alloc::Global;
 
-/// Makes all steps of an installation of which none was made. Behind the first one, which makes the scratch file, all changes of names are made
-/// lasting, so that nothing is written while one is pending: what stood under the name of the rules file may be overwritten on the disk only once
-/// that name is gone for good. (Whoever had the scratch name before may have given it back, by its rename, before that was lasting.)
+/// Makes all steps of an installation of which none was made. Behind the first one, which makes the scratch file, all
+/// changes of names are made lasting, so that nothing is written while one is pending: what stood under the name of the
+/// rules file may be overwritten on the disk only once that name is gone for good. (Whoever had the scratch name before
+/// may have given it back, by its rename, before that was lasting.)
 ///
 /// # Errors
 /// As of `whole::finish`. A fault of that settling is one on the way to `Fresh`.

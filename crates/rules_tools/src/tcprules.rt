@@ -120,11 +120,12 @@ impl From<TcprulesFault> for RulesFailure {
     }
 }
 
-/// Reads a rule text, compiles it, and installs the compiled file under the path `cdb`, with `tmp` as its scratch file: `install_text` over the
-/// folder of the paths, which may spell it in two ways.
+/// Reads a rule text, compiles it, and installs the compiled file under the path `cdb`, with `tmp` as its scratch file:
+/// `install_text` over the folder of the paths, which may spell it in two ways.
 ///
 /// # Errors
-/// As of `install_text`, with the cause of a fault: the error that the reader noted, or that of the disk. Where something is wrong with the paths no folder is opened.
+/// As of `install_text`, with the cause of a fault: the error that the reader noted, or that of the disk. Where
+/// something is wrong with the paths no folder is opened.
 pub fn run_tcprules<F: InstallFolders, R: Read>(
     alloc: Global,
     folders: &mut F,
@@ -204,8 +205,9 @@ fn tell(
     Err(RulesFailure { fault, cause })
 }
 
-/// The last parts of two paths as names; `one_folder` is whether the folders of the paths are one. Names are looked at first, then folders, then
-/// whether the names are the same; want of memory is told only where nothing is wrong with them.
+/// The last parts of two paths as names; `one_folder` is whether the folders of the paths are one. Names are looked at
+/// first, then folders, then whether the names are the same; want of memory is told only where nothing is wrong with
+/// them.
 pub(crate) fn read_names(
     alloc: Global,
     one_folder: bool,

@@ -132,13 +132,13 @@ fn tell(
     Err(CheckFailure { fault, cause })
 }
 
-/// Writes what the compiled file at a path decides for the peer of the variables `TCPREMOTEIP`, `TCPREMOTEHOST` and `TCPREMOTEINFO`. One
-/// that is unset, empty or not UTF-8 counts as unknown; an unknown address is `0.0.0.0`. A folder that is not there has no files, and there is no
-/// file at a path whose last part is no name.
+/// Writes what the compiled file at a path decides for the peer of the variables `TCPREMOTEIP`, `TCPREMOTEHOST` and
+/// `TCPREMOTEINFO`. One that is unset, empty or not UTF-8 counts as unknown; an unknown address is `0.0.0.0`. A folder
+/// that is not there has no files, and there is no file at a path whose last part is no name.
 ///
 /// # Errors
-/// In the order of `CheckFault`. Before `WriteFault` nothing was written. Where there is none, the last call of the writer, that all it holds goes
-/// out, had no error of the system.
+/// In the order of `CheckFault`. Before `WriteFault` nothing was written. Where there is none, the last call of the
+/// writer, that all it holds goes out, had no error of the system.
 pub fn tell_decision<V: Variables, F: Folders, W: Write>(
     alloc: Global,
     variables: &V,
@@ -250,8 +250,8 @@ fn read_name(alloc: Global, text: &str) -> Result<Name, CheckFault>
 /// What the compiled file under a name decides, or that there is none.
 ///
 /// # Errors
-/// `Device` where it could not be opened, `ReadFault` where it could not be read, `Damaged` where it is no compiled file or its value no
-/// instruction; `OutOfMemory`. The directory is as before.
+/// `Device` where it could not be opened, `ReadFault` where it could not be read, `Damaged` where it is no compiled
+/// file or its value no instruction; `OutOfMemory`. The directory is as before.
 pub fn decide_at<D: Dir>(
     alloc: Global,
     dir: &mut D,

@@ -47,10 +47,12 @@ impl<'a, E: Env + AllocGlobal> Variables for SystemVariables<'a, E> {
     }
 }
 
-/// The peer of `TCPREMOTEIP`, `TCPREMOTEHOST` and `TCPREMOTEINFO`. What is unset, empty or no UTF-8 is unknown; an unknown address is 0.0.0.0.
+/// The peer of `TCPREMOTEIP`, `TCPREMOTEHOST` and `TCPREMOTEINFO`. What is unset, empty or no UTF-8 is unknown; an
+/// unknown address is 0.0.0.0.
 ///
 /// # Errors
-/// `BadIp`, else `BadHost`, else `BadInfo`, where the variable is no address, or no name that a peer may have; `OutOfMemory`.
+/// `BadIp`, else `BadHost`, else `BadInfo`, where the variable is no address, or no name that a peer may have;
+/// `OutOfMemory`.
 pub fn read_peer<V: Variables>(alloc: Global, variables: &V) -> Result<Peer, CheckFault>
     ensures told { IsTrue V.honest → IfOk result (λ peer. client_of (V.value variables.now) ≡ Ok peer) }
     ensures refused { IsTrue V.honest → IfErr result (ClientFails (V.value variables.now)) }

@@ -1,5 +1,5 @@
-//! Events, the stages of a connection, and what each event does: when it may happen, the state that it leads to, and the
-//! report after it.
+//! Events, the stages of a connection, and what each event does: when it may happen, the state that it leads to, and
+//! the report after it.
 ghost use Rattle.std.specs.Prelude.{◌≡◌, true, OnOk, OnErr};
 ghost use Rattle.server_events.specs.Journals.{next_report};
 ghost use Rattle.server_events.specs.Reports.{is_admission};

@@ -30,7 +30,8 @@ pub fn table()
     ensures runs { (w v : ServerState) (events : List Event) → Runs w events v ↔ IsLegalTo w events v }
 {}
 
-/// The position of the first event that may not happen, as a function. There is none exactly if the table allows the list.
+/// The position of the first event that may not happen, as a function. There is none exactly if the table allows the
+/// list.
 pub fn first_illegal()
     ensures none { (w : ServerState) (es : List Event) → (first_illegal w es ≡ None) ↔ (is_legal w es ≡ true) }
     ensures some { (w : ServerState) (es : List Event) (i : ℕ) → (first_illegal w es ≡ Some i) ↔ IsFirstIllegal w es i }

@@ -34,8 +34,8 @@ pub struct Log<W> {
 }
 
 impl<W: Write> Log<W> {
-    /// A log of this level that speaks with this voice, for a server with this limit of connections. It takes no memory,
-    /// and nothing is written.
+    /// A log of this level that speaks with this voice, for a server with this limit of connections. It takes no
+    /// memory, and nothing is written.
     pub fn new(alloc: Global, writer: W, level: Level, voice: Voice, limit: u64) -> Log<W>
         ensures writer { writer_of result ≡ writer }
         ensures level { level_of result ≡ level }

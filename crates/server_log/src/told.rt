@@ -40,8 +40,8 @@ pub enum Told<'a> {
     Retired {
         serial: u64,
     },
-    /// It was given up before its child was started: by what is wrong with the rules file, if that is known, and by this
-    /// cause of the system or this damage if there was one.
+    /// It was given up before its child was started: by what is wrong with the rules file, if that is known, and by
+    /// this cause of the system or this damage if there was one.
     Dropped {
         serial: u64,
         cause: DropCause,

@@ -8,8 +8,8 @@ use std::alloc::{AllocError, AllocFailed};
 use std::error::Error;
 use std::fmt;
 
-/// What is wrong with the words of `tcpserver`. Where several things are, the first of them counts: the option words in their order,
-/// then the numbers in the order of `ConnectionLimits`, then host, port and program, then the wrappers.
+/// What is wrong with the words of `tcpserver`. Where several things are, the first of them counts: the option words in
+/// their order, then the numbers in the order of `ConnectionLimits`, then host, port and program, then the wrappers.
 #[derive(Clone, Copy, PartialEq, Eq, Debug)]
 pub enum ServerWordsFault {
     /// There is no such option.

@@ -8,8 +8,8 @@ ghost use Rattle.server_words.specs.Faults.{fault_of_word};
 ghost use Rattle.server_words.specs.declared.mode.Mode.{Mode};
 ghost use Rattle.server_words.specs.Plans.{options_in, plan_of};
 
-/// The fault of words is that of their option words, or else the first that the checks find, in their order; and where these find none,
-/// the words have none.
+/// The fault of words is that of their option words, or else the first that the checks find, in their order; and where
+/// these find none, the words have none.
 pub fn first_fault()
     ensures options { (by_name : Mode) (words : List (List ℕ)) (fault : WordFault)
         → options_in words ≡ Err fault → plan_of by_name words ≡ Err (fault_of_word fault) }

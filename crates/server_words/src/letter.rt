@@ -18,8 +18,8 @@ pub enum Meaning {
 }
 
 impl Meaning {
-    /// What a text of letters says of a character. Of a letter that stands there twice the first place counts. `:`, `!` and
-    /// `-` are no letters.
+    /// What a text of letters says of a character. Of a letter that stands there twice the first place counts. `:`, `!`
+    /// and `-` are no letters.
     pub fn of(letters: &str, letter: char) -> Meaning
         ensures { result ≡ meaning_of (chars letters.now) letter }
     {

@@ -4,8 +4,8 @@ ghost use Rattle.server_words.specs.Modes.{mode_given, mode_in};
 
 use crate::Options;
 
-/// What a program has as its standard input and output. Of `-s` and `-S` the last given counts; without them the name by which the tool was
-/// called does.
+/// What a program has as its standard input and output. Of `-s` and `-S` the last given counts; without them the name
+/// by which the tool was called does.
 #[derive(Clone, Copy)]
 pub enum Mode {
     /// The connection itself, one socket twice, as in ucspi-tcp 0.88 (`-s`).

@@ -25,8 +25,8 @@ impl<'a> Model for Operands<'a> {
 }
 
 impl<'a> Operands<'a> {
-    /// The host, the port and the program that words name, if they do: a host is `0`, `localhost` or an IPv4 address, and a port a
-    /// number up to 65,535.
+    /// The host, the port and the program that words name, if they do: a host is `0`, `localhost` or an IPv4 address,
+    /// and a port a number up to 65,535.
     pub(crate) fn of(words: &'a [String]) -> Option<Operands<'a>>
         ensures { result ≡ operands_in (texts words.now) }
     {

@@ -12,13 +12,13 @@ use std::alloc::Global;
 
 /// Reads the options at the start of `words`, as `letters` describes them, and gives them with the words that follow.
 ///
-/// A word that begins with `-` and is longer holds letters. A letter with a value takes the rest of its word if that is not
-/// empty, else the next word, whatever that is. `--` ends the options and is dropped; the first other word ends them and is
-/// kept. This is how the ucspi-tcp tools read their words.
+/// A word that begins with `-` and is longer holds letters. A letter with a value takes the rest of its word if that is
+/// not empty, else the next word, whatever that is. `--` ends the options and is dropped; the first other word ends
+/// them and is kept. This is how the ucspi-tcp tools read their words.
 ///
 /// # Errors
-/// `Unknown`, `NoValue` or `NotInProfile` with the first faulty letter of the first faulty word; `OutOfMemory` where there was
-/// no memory for the options. `BadNumber` is not answered here.
+/// `Unknown`, `NoValue` or `NotInProfile` with the first faulty letter of the first faulty word; `OutOfMemory` where
+/// there was no memory for the options. `BadNumber` is not answered here.
 pub fn read_words<'a>(
     alloc: Global,
     letters: &str,
@@ -100,7 +100,8 @@ impl<'a> Word<'a> {
     }
 }
 
-/// Adds the options that the letters of a word give. Answers the letter that takes the next word as its value, if one does.
+/// Adds the options that the letters of a word give. Answers the letter that takes the next word as its value, if one
+/// does.
 fn read_letters<'a>(
     options: &mut Options<'a>,
     letters: &str,

@@ -74,8 +74,8 @@ impl<'a> Options<'a> {
         last_of(self.given.as_slice(), letters)
     }
 
-    /// The number that a letter's value is, from `least` to `greatest`; `None` where the letter has no value. A value that is no
-    /// such number is `BadNumber` with the letter.
+    /// The number that a letter's value is, from `least` to `greatest`; `None` where the letter has no value. A value
+    /// that is no such number is `BadNumber` with the letter.
     pub fn number(&self, letter: char, least: u64, greatest: u64) -> Result<Option<u64>, WordFault>
         ensures read { IfOk result (IsNumberOf self.now (number_option letter least greatest)) }
         ensures refused { IfErr result (IsBadBy self.now (number_option letter least greatest)) }

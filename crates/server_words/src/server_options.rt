@@ -4,8 +4,8 @@ ghost use Rattle.server_words.specs.Limits.{limits_in};
 
 use crate::{Options, WordFault};
 
-/// The letters of `tcpserver`: one followed by `:` takes a value, one followed by `!` is not in this profile, which is to say
-/// that the original program has it and this one refuses it.
+/// The letters of `tcpserver`: one followed by `:` takes a value, one followed by `!` is not in this profile, which is
+/// to say that the original program has it and this one refuses it.
 pub const TCPSERVER_LETTERS: &str = "vQq1c:k:m:x:XB:l:N:hHpPsSw:ROodDt:b:r!u!g!U!";
 
 /// The same letters where only the level is looked for, so that none is refused.
@@ -60,8 +60,8 @@ impl ConnectionLimits {
     /// The limits that options ask for.
     ///
     /// # Errors
-    /// `BadNumber` with the first of the letters `c`, `k` and `m`, in this order, whose value is no number in its range. No other
-    /// fault is answered.
+    /// `BadNumber` with the first of the letters `c`, `k` and `m`, in this order, whose value is no number in its
+    /// range. No other fault is answered.
     pub(crate) fn of(options: &Options<'_>) -> Result<ConnectionLimits, WordFault>
         ensures { result ≡ limits_in options.now }
     {

@@ -60,9 +60,10 @@ impl<'a> Model for ServerWords<'a> {
     } };
 }
 
-/// Reads the words of `tcpserver` after its name. The checks are made in the order of the faults that `ServerWordsFault` tells; the host
-/// table, the folder of the rules and the socket come after them, and are the caller's. The options are those of `docs/OPTIONS.md`; without
-/// `-s` and `-S` the mode is `by_name`, that of the name by which the tool was called.
+/// Reads the words of `tcpserver` after its name. The checks are made in the order of the faults that
+/// `ServerWordsFault` tells; the host table, the folder of the rules and the socket come after them, and are the
+/// caller's. The options are those of `docs/OPTIONS.md`; without `-s` and `-S` the mode is `by_name`, that of the name
+/// by which the tool was called.
 ///
 /// # Errors
 /// The first fault that the words have, or `OutOfMemory`.
@@ -166,7 +167,8 @@ impl<'a> ServerWords<'a> {
         self.rules
     }
 
-    /// What it means that the rules file is missing: allow under `-X`, else drop. It means nothing where no rules file is given.
+    /// What it means that the rules file is missing: allow under `-X`, else drop. It means nothing where no rules file
+    /// is given.
     pub fn missing(&self) -> WhenMissing
         ensures { result ≡ self.now.missing }
     {
@@ -187,7 +189,8 @@ impl<'a> ServerWords<'a> {
         self.hosts
     }
 
-    /// The name of the server's own end (`-l`), which may be empty. Without it that is the host table's name of the local address.
+    /// The name of the server's own end (`-l`), which may be empty. Without it that is the host table's name of the
+    /// local address.
     pub fn local(&self) -> Option<&'a str>
         ensures { text_of result ≡ self.now.local }
     {
@@ -201,7 +204,8 @@ impl<'a> ServerWords<'a> {
         self.names_remote
     }
 
-    /// Whether a name of the other end that the host table does not confirm is removed (`-p`) or kept (`-P`, and without either).
+    /// Whether a name of the other end that the host table does not confirm is removed (`-p`) or kept (`-P`, and
+    /// without either).
     pub fn confirms(&self) -> bool
         ensures { result ≡ self.now.confirms }
     {

@@ -51,8 +51,8 @@ impl LineWrapperName {
     }
 }
 
-/// The wrappers of each connection: the line wrappers that its input goes through and those of its output, each in the order in which it
-/// does, and whether both ways are recorded at the network's side.
+/// The wrappers of each connection: the line wrappers that its input goes through and those of its output, each in the
+/// order in which it does, and whether both ways are recorded at the network's side.
 #[derive(Drop)]
 pub struct Wrapping {
     records: bool,
@@ -94,7 +94,8 @@ impl Wrapping {
         Wrapping::new(alloc, records, line_wrappers.as_slice())
     }
 
-    /// These line wrappers, in the order of their names: those of the input in this order, those of the output in the opposite one.
+    /// These line wrappers, in the order of their names: those of the input in this order, those of the output in the
+    /// opposite one.
     fn new(
         alloc: Global,
         records: bool,

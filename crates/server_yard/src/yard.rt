@@ -69,8 +69,8 @@ pub struct Yard<L: Ledger> {
     pub ghost room: { has_room journal (room_needed state.connections) ≡ true },
 }
 
-// Written out, the drop of all that a yard has is proved here alone. A derived one is proved in each crate above that lets
-// a yard go, with those of all its parts.
+// Written out, the drop of all that a yard has is proved here alone. A derived one is proved in each crate above that
+// lets a yard go, with those of all its parts.
 impl<L: Ledger> Drop for Yard<L> {
     fn drop(self) {
         let Yard {

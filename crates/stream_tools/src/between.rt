@@ -96,8 +96,8 @@ pub trait Piped: Job {
     /// The end of the pipe that it writes.
     type Output;
 
-    /// Gives the two ends of its pipes, once: what is written into the first the program reads on descriptor 0, and what
-    /// it writes on descriptor 1 is read from the second. `None` if they were given before, or there are none.
+    /// Gives the two ends of its pipes, once: what is written into the first the program reads on descriptor 0, and
+    /// what it writes on descriptor 1 is read from the second. `None` if they were given before, or there are none.
     fn ends(&mut self) -> Option<(Self::Input, Self::Output)>
         ensures program { Self.program self.new ≡ Self.program self.old }
         ensures environment { Self.environment self.new ≡ Self.environment self.old };
@@ -141,16 +141,17 @@ pub struct RunEnd {
     pub output: PumpEnd,
 }
 
-/// Runs a program between two pumps: what `input` reads it is given as its standard input, and what it writes on its standard output
-/// goes to `output`. The program's input is closed when the one pump ends. When both have ended the program is waited for, once. A pump
-/// that ended before its reader did is no error of the run.
+/// Runs a program between two pumps: what `input` reads it is given as its standard input, and what it writes on its
+/// standard output goes to `output`. The program's input is closed when the one pump ends. When both have ended the
+/// program is waited for, once. A pump that ended before its reader did is no error of the run.
 ///
-/// `watch` makes a watch of the input and of the pipe to the program, if there can be one: under it the input ends, too, where the program
-/// reads no more. Without one the pump of the input ends with its reader, or with the first write that the program does not take.
+/// `watch` makes a watch of the input and of the pipe to the program, if there can be one: under it the input ends,
+/// too, where the program reads no more. Without one the pump of the input ends with its reader, or with the first
+/// write that the program does not take.
 ///
 /// # Errors
-/// `CannotStart` where the program could not be started, gave no pipe ends, or no thread could be had for its input; in the last two
-/// cases it was killed and waited for. `Device` where the wait failed; `OutOfMemory`.
+/// `CannotStart` where the program could not be started, gave no pipe ends, or no thread could be had for its input; in
+/// the last two cases it was killed and waited for. `Device` where the wait failed; `OutOfMemory`.
 pub fn run_between<H, B, T, F>(
     rt: &H,
     alloc: Global,
@@ -186,8 +187,8 @@ where
     end_of(job, pumps)
 }
 
-/// Pumps both ways until both pumps have ended. It answers how they ended; `None` where it could not be without the program's pipe ends and
-/// a thread for its input.
+/// Pumps both ways until both pumps have ended. It answers how they ended; `None` where it could not be without the
+/// program's pipe ends and a thread for its input.
 fn serve<H, B, T, F>(
     rt: &H,
     alloc: Global,
@@ -221,8 +222,8 @@ where
     pump_both::<H, B, _, T>(rt, alloc, (input, to), (from, output))
 }
 
-/// The end of a program, which is waited for once, and abandoned where that fails, with the ends of its pumps. One that was not served, since
-/// its input got no thread, has none, and is killed before the wait, whatever the system answers.
+/// The end of a program, which is waited for once, and abandoned where that fails, with the ends of its pumps. One that
+/// was not served, since its input got no thread, has none, and is killed before the wait, whatever the system answers.
 pub fn end_of<J: Job>(
     mut job: J,
     pumps: Option<(PumpEnd, PumpEnd)>,
@@ -272,8 +273,9 @@ impl<I: Read, P: Write, T: Tap> Promise<PumpEnd> for Feeding<I, P, T> {
         feeding.input.value.stream feeding.to.value feeding.input.value.chain feeding.input.value.tap end };
 }
 
-/// Pumps input to a program in a thread of its own, and its output in this one. Each of the program's pipe ends is closed when its pump
-/// ends. It answers how the pumps ended; `None` where no thread could be had: nothing was pumped then, and both ends are closed.
+/// Pumps input to a program in a thread of its own, and its output in this one. Each of the program's pipe ends is
+/// closed when its pump ends. It answers how the pumps ended; `None` where no thread could be had: nothing was pumped
+/// then, and both ends are closed.
 fn pump_both<H, B, I, T>(
     rt: &H,
     alloc: Global,
@@ -317,7 +319,8 @@ where
     )
 }
 
-/// Pumps from a reader to a writer, through this chain and under the eyes of this tap, to the end of one of them, and closes both.
+/// Pumps from a reader to a writer, through this chain and under the eyes of this tap, to the end of one of them, and
+/// closes both.
 fn run_pump<R: Read + Drop, W: Write + Drop, T: Tap + Drop>(
     alloc: Global,
     reader: R,

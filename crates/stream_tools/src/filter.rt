@@ -79,7 +79,8 @@ fn answer_of(why: Why) -> Result<(), FilterFault>
 /// `addcr`: passes a text on with a carriage return before each line feed, to its end.
 ///
 /// # Errors
-/// As of `FilterFault`. All that is made of what was read is written before a read fault; at another fault a front of it.
+/// As of `FilterFault`. All that is made of what was read is written before a read fault; at another fault a front of
+/// it.
 pub fn add_returns<R: Read, W: Write>(
     alloc: Global,
     reader: &mut R,

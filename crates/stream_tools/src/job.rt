@@ -10,7 +10,8 @@ use std::os::unix::process::ExitStatusExt;
 use std::process::{ChildStdin, ChildStdout, ExitStatus};
 use std::snapshot::Snapshot;
 
-/// A child of this process, and the ends of its pipes until they are given. The language lets nobody drop it: it is waited for, or abandoned.
+/// A child of this process, and the ends of its pipes until they are given. The language lets nobody drop it: it is
+/// waited for, or abandoned.
 pub struct OsJob {
     pub(crate) number: i32,
     // whether it was waited for, by this value or by other code, so that its number may be another's
@@ -23,11 +24,13 @@ pub struct OsJob {
 }
 
 impl OsJob {
-    /// Looks, without waiting, whether the child is over: it has exited or was killed, or it can't be waited for any more,
-    /// as where other code has waited for it. One that is stopped is not over, and nor is one of which the system told nothing.
+    /// Looks, without waiting, whether the child is over: it has exited or was killed, or it can't be waited for any
+    /// more, as where other code has waited for it. One that is stopped is not over, and nor is one of which the system
+    /// told nothing.
     ///
-    /// A child that has ended is waited for by this look. How it ended is kept, and `wait` answers it. From then on each
-    /// look answers the same, and `kill` refuses, since the child's number may be another's. The pipe ends stay as they are.
+    /// A child that has ended is waited for by this look. How it ended is kept, and `wait` answers it. From then on
+    /// each look answers the same, and `kill` refuses, since the child's number may be another's. The pipe ends stay as
+    /// they are.
     pub fn is_over(&mut self) -> bool
         ensures program { ⟦<OsJob as Job>⟧.program self.new ≡ ⟦<OsJob as Job>⟧.program self.old }
         ensures environment { ⟦<OsJob as Job>⟧.environment self.new ≡ ⟦<OsJob as Job>⟧.environment self.old }
@@ -102,8 +105,8 @@ impl Job for OsJob {
     }
 }
 
-/// Waits until the child of this number has exited or was killed, and tells which, with the signal. One that is stopped is waited for, until
-/// it goes on and ends. `gone` is whether it was waited for before, and then whether it is now.
+/// Waits until the child of this number has exited or was killed, and tells which, with the signal. One that is stopped
+/// is waited for, until it goes on and ends. `gone` is whether it was waited for before, and then whether it is now.
 ///
 /// # Errors
 /// `Failed` where the system refused it, as where other code has waited for the child; `OutOfMemory`.
@@ -116,8 +119,8 @@ fn wait_for_end(number: i32, gone: &mut bool) -> Result<Exit, WaitFault> {
     Err(WaitFault::Failed)
 }
 
-/// Waits for the next that the system tells of the child; `None` where that is not its end. With the option `WNOHANG` it does not wait, and
-/// answers `None` as well where the system has nothing to tell yet.
+/// Waits for the next that the system tells of the child; `None` where that is not its end. With the option `WNOHANG`
+/// it does not wait, and answers `None` as well where the system has nothing to tell yet.
 fn wait_once(number: i32, options: i32, gone: &mut bool) -> Result<Option<Exit>, WaitFault>
     requires options { WaitFlags options }
 {

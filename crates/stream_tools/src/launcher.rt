@@ -16,9 +16,9 @@ use std::snapshot::Snapshot;
 /// Stands for this process's own descriptor, which a program is given as it is.
 const INHERITED: RawFd = -1;
 
-/// Starts programs of the system, as children of this process. A child gets descriptors 0, 1 and 2 alone, the last this process's standard
-/// error. A program whose name has no slash is looked for, at each start, in the folders of the launcher's search path, whatever the
-/// variables say that the program is given.
+/// Starts programs of the system, as children of this process. A child gets descriptors 0, 1 and 2 alone, the last this
+/// process's standard error. A program whose name has no slash is looked for, at each start, in the folders of the
+/// launcher's search path, whatever the variables say that the program is given.
 #[derive(Drop)]
 pub struct OsLauncher<'a, P> {
     processes: &'a P,
@@ -31,7 +31,8 @@ impl<'a, P: Processes> OsLauncher<'a, P> {
         OsLauncher { processes, search }
     }
 
-    /// Starts a program whose standard input and output are both what this descriptor stands for. The job has no pipe ends to give.
+    /// Starts a program whose standard input and output are both what this descriptor stands for. The job has no pipe
+    /// ends to give.
     ///
     /// # Errors
     /// As of `Launcher::start`.

@@ -32,14 +32,15 @@ struct Start {
     streams: [RawFd; 3],
 }
 
-/// Starts a program with these variables and no others, and these descriptors as 0, 1 and 2; a negative one stands for this process's own. It
-/// gets no other descriptor. Argument 0 is the program's name as it is given. A name without a slash is looked for in the folders of `search`,
-/// whatever the variables say: in each in turn until it is started; a folder that is not there, that is a file, or in which the program may not
-/// be executed is passed over. It answers the system's number of the child, which is neither waited for nor killed by itself.
+/// Starts a program with these variables and no others, and these descriptors as 0, 1 and 2; a negative one stands for
+/// this process's own. It gets no other descriptor. Argument 0 is the program's name as it is given. A name without a
+/// slash is looked for in the folders of `search`, whatever the variables say: in each in turn until it is started; a
+/// folder that is not there, that is a file, or in which the program may not be executed is passed over. It answers the
+/// system's number of the child, which is neither waited for nor killed by itself.
 ///
 /// # Errors
-/// `NotFound` where there is no such program, `Refused` where one was found that may not be executed, `Other` where anything else is amiss, as
-/// a zero byte in a word; `OutOfMemory`. Nothing runs then.
+/// `NotFound` where there is no such program, `Refused` where one was found that may not be executed, `Other` where
+/// anything else is amiss, as a zero byte in a word; `OutOfMemory`. Nothing runs then.
 pub fn start_process(
     alloc: Global,
     search: &SearchPath,

@@ -16,8 +16,8 @@ use std::io::{Read, Write};
 use std::sync::Wait;
 use std::thread::Threads;
 
-/// `recordio`: runs a program between two streams, and records what goes by on two writers, with the number that is the peer's port among
-/// the variables.
+/// `recordio`: runs a program between two streams, and records what goes by on two writers, with the number that is the
+/// peer's port among the variables.
 ///
 /// # Errors
 /// As of `run_between`.

@@ -9,8 +9,8 @@ use std::rt::Env;
 /// What is searched where this process was given no `PATH`.
 const DEFAULT_PATH: &[u8] = b"/bin:/usr/bin";
 
-/// The folders in which a program is looked for whose name has no slash, in their order, each as the bytes that it is, with a colon between
-/// each two. An empty one is the working directory.
+/// The folders in which a program is looked for whose name has no slash, in their order, each as the bytes that it is,
+/// with a colon between each two. An empty one is the working directory.
 #[derive(Drop)]
 pub struct SearchPath {
     pub(crate) path: Vec<u8>,

@@ -54,7 +54,8 @@ impl<'a, E: Env> Given for SystemGiven<'a, E> {
     }
 }
 
-/// The path by which the program was called, as the bytes that it is: the first of its words, empty where there is none.
+/// The path by which the program was called, as the bytes that it is: the first of its words, empty where there is
+/// none.
 ///
 /// # Errors
 /// There was no memory.
@@ -132,7 +133,8 @@ fn variable_of(text: &str) -> Option<(&str, &str)>
     }
 }
 
-/// The program that words name: the first is its path, the others are its arguments. A word that is not UTF-8 counts as empty.
+/// The program that words name: the first is its path, the others are its arguments. A word that is not UTF-8 counts as
+/// empty.
 pub fn program_of(alloc: Global, words: &[Vec<u8>]) -> Result<Program, AllocError>
     ensures { IfOk result (λ program. program ≡ program_by (texts_of words.now)) }
 {
@@ -178,7 +180,8 @@ pub(crate) enum Entry<'a> {
     Named(&'a str),
 }
 
-/// What this process was told there, as the bytes that it is, in a buffer that grows until it fits; `None` where there is nothing.
+/// What this process was told there, as the bytes that it is, in a buffer that grows until it fits; `None` where there
+/// is nothing.
 pub(crate) fn told<E: Env>(
     alloc: Global,
     env: &E,

@@ -39,8 +39,8 @@ pub enum OpenFault {
 /// Opens the rules for a connection, as `WholeYard::open` does.
 ///
 /// # Errors
-/// `OutOfTurn` exactly if no connection with this serial is in the stage `Admitted`. Otherwise those of `WholeYard::open`:
-/// `Device`, if its failure was counted, and `OutOfMemory`.
+/// `OutOfTurn` exactly if no connection with this serial is in the stage `Admitted`. Otherwise those of
+/// `WholeYard::open`: `Device`, if its failure was counted, and `OutOfMemory`.
 #[derive(Drop)]
 pub struct Open {
     /// What gives memory.
