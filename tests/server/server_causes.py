@@ -53,6 +53,8 @@ def faults_of_the_start(suite):
     told(suite, "a folder as host table", ["-N", suite.folder] + SERVE, 111, "read fault", suite.folder + ": Is a directory")
     for path in (suite.folder + "/", suite.folder + "/.", suite.folder + "/.."):
         told(suite, "a folder as rules, " + path, ["-x", path] + SERVE, 111, "device fault", suite.folder + ": Is a directory")
+    long_name = suite.path("n" * 256)
+    told(suite, "rules by a long name", ["-x", long_name] + SERVE, 111, "device fault", long_name[:100] + "...: File name too long")
     for path in (absent + "/", absent + "/rules.cdb"):
         told(suite, "rules in no folder, " + path, ["-x", path] + SERVE, 111, "device fault", absent + ": No such file or directory")
     with socket.socket() as taken:

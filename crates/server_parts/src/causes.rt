@@ -66,7 +66,15 @@ fn append_failure(
 ) -> Result<(), AllocError> {
     let what = match fault {
         ServerFault::ReadFault => words.hosts().unwrap_or_default(),
-        ServerFault::Device => folder_path(split_path(words.rules().unwrap_or_default()).0),
+        ServerFault::Device => {
+            let path = words.rules().unwrap_or_default();
+            // (the name is too long, or a part of the folder's path)
+            if error == libc::ENAMETOOLONG {
+                path
+            } else {
+                folder_path(split_path(path).0)
+            }
+        }
         ServerFault::WriteFault => "stdout",
         _ => {
             let why = words_of_error(alloc, error)?;

@@ -149,6 +149,10 @@ fn name_of(alloc: Global, name: &str) -> Result<Name, ServerFailure>
             fault: ServerFault::Device,
             error: Some(libc::EISDIR),
         }),
+        Err(NameFault::TooLong) => Err(ServerFailure {
+            fault: ServerFault::Device,
+            error: Some(libc::ENAMETOOLONG),
+        }),
         Err(_) => Err(ServerFailure::from(ServerFault::Device)),
     }
 }
