@@ -1,5 +1,5 @@
 -- What a server has by its words: its program, its names, and what its connections take.
-use Rattle.std.specs.Prelude.{◌≡◌, ℕ, List, Option, Some, None, is_some, option_map, string_bytes}
+use Rattle.std.specs.Prelude.{◌≡◌, ℕ, is_some, option_map, string_bytes}
 use Rattle.child_jobs.specs.Programs.{ProgramText}
 use Rattle.server_words.specs.Operands.{Service}
 use Rattle.server_words.specs.Plans.{ServerPlan}

@@ -1,5 +1,5 @@
 -- What a turn makes of a yard, and what it leaves as it was.
-use Rattle.std.proofs.Common.{◌≡◌, ℕ, Bool, false, true, ap, refl, subst, sym, ◌∙◌}
+use Rattle.std.proofs.Common.{◌≡◌, ℕ, false, true, ap, refl, subst, sym, ◌∙◌}
 use Rattle.std.specs.Prelude.{None, Option, Some}
 use Rattle.server_events.specs.Journals.{one_more}
 use Rattle.server_events.specs.ServerState.{is_started, is_connections}
@@ -7,15 +7,15 @@ use Rattle.server_events.specs.declared.event.Event.{Event}
 use Rattle.server_events.specs.declared.event.Stage.{Stage}
 use Rattle.server_events.specs.declared.event.Stage.TheVariants as stage
 use Rattle.server_yard.specs.Leavings.{leaving_event}
-use Rattle.server_yard.specs.Rolls.{Notes, Roll, number_at, stage_at}
+use Rattle.server_yard.specs.Rolls.{Notes, Roll}
 use Rattle.server_yard.specs.Rooms.{KeepsRoom}
 use Rattle.server_yard.specs.Seating.{KeepsSeats}
-use Rattle.server_yard.specs.Yards.{IsSameBeside, stage_of_place, yard_roll, yard_seat}
+use Rattle.server_yard.specs.Yards.{IsSameBeside, yard_roll, yard_seat}
 use Rattle.server_yard.specs.declared.leaving.Leaving.{Leaving}
 use Rattle.server_yard.specs.declared.leaving.Leaving.TheVariants.{StartFailed, Ended, Dropped}
 use Rattle.server_yard.specs.declared.yard.Yard.{Yard}
 use Rattle.shared_site.specs.Receipts.{receipt_after, receipt_at, receipt_of}
-use Rattle.shared_site.specs.Turns.{IsAt, IsLastOf, IsPassedOver, Makes, NotesAs, NotesBy, spoken_by}
+use Rattle.shared_site.specs.Turns.{IsLastOf, IsPassedOver, Makes, NotesAs, NotesBy, spoken_by}
 use Rattle.shared_site.specs.declared.receipt.Made.{Made}
 use Rattle.shared_site.proofs.Spoken.{notes_from}
 

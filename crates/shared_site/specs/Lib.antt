@@ -1,4 +1,3 @@
--- A yard that many callers share: evidence of its events, what a turn does to it, and its callers and their counts.
+-- A yard that many threads share: evidence of its events, and what a turn does to it.
 pub mod Receipts
 pub mod Turns
-pub mod Callers

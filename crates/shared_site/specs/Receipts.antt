@@ -55,10 +55,6 @@ Refuses Full ip events server = (events ≢ 2 ^ 64 - 1) × (length server.connec
 Refuses FullForAddress ip events server = (events ≢ 2 ^ 64 - 1) × IsAddressFull ip server
 Refuses OutOfMemory ip events server = ⊤
 
--- a turn makes one event or none; a journal that only counts stays at its last number
-abbrev pub CountsAtMostOne : (old new : ℕ) → Type 0
-CountsAtMostOne old new = (new ≡ old) ⊎ (new ≡ one_more old)
-
 -- the caller with this number made this event, the next after this many; or it was out of turn, and no event was made
 abbrev pub MakesOrNot : Event → (who before : ℕ) → Result Made OutOfTurn → (after : ℕ) → Type 0
 MakesOrNot event who before (Ok made) after = (receipt_of made ≡ receipt_after before who event) × (after ≡ one_more before)

@@ -39,10 +39,17 @@ pub record IsLastOf (who : ℕ) (event : Event) (roll : Roll) : Type 0 where
   pub before : Roll
   pub noted : NotesBy who event before roll
 
--- a turn of a caller gave this answer between these states of a yard, as it may by the numbers of events before and after
--- it
+-- a turn of a caller gave this answer between these states of a yard, as it may by the numbers of events before and
+-- after it
 abbrev pub Answers : {A L : Type 0} → (answers : ℕ → ℕ → A → ℕ → Type 0) → (who : ℕ) → A → (old new : Yard L) → Type 0
 Answers answers who answer old new = answers who (yard_books old).count answer (yard_books new).count
+
+-- it is an answer that a turn may give, to some caller after some events
+pub record IsAnswer {A : Type 0} (answers : ℕ → ℕ → A → ℕ → Type 0) (answer : A) : Type 0 where
+  pub who : ℕ
+  pub before : ℕ
+  pub after : ℕ
+  pub answered : answers who before answer after
 
 -- a yard is as before, but for the speaker
 pub record IsPassedOver {L : Type 0} (who : ℕ) (old new : Yard L) : Type 0 where

@@ -1,19 +1,15 @@
 //! What a site stands on.
 ghost use Rattle.rule_lookup.specs.declared.decision.WhenMissing.{WhenMissing};
 
-use crate::caller::{Caller, Callers};
 use dir_calls::RulesFile;
 use server_yard::Yard;
 use std::sync::ledger::Ledger;
 
-/// What a site stands on: a type for each thing that its yard has, and for its callers. A ground is a name for these
-/// types together, and has no values.
+/// What a site stands on: a type for each thing that its yard has. A ground is a name for these types together, and has
+/// no values.
 pub trait Ground {
     /// The ledger of the places of connections.
     type Places: Ledger;
-
-    /// The ledger of the callers.
-    type Callers: Callers;
 
     /// A rules file that a connection has opened.
     type File: RulesFile + Drop;
@@ -24,6 +20,3 @@ pub trait Ground {
 
 /// The yard of a site.
 pub type YardOf<G> = Yard<<G as Ground>::Places>;
-
-/// Who makes events at a site.
-pub type CallerOf<G> = Caller<<G as Ground>::Callers>;

@@ -1,6 +1,6 @@
-//! The site: a yard under one lock, for many threads. A caller hands it a turn: a value that asks for one event.
+//! The site: a yard under one lock, for many threads. A thread hands it a turn: a value that asks for one event.
 //!
-//! There is a type of turns for each event of a connection, and one for the three by which it goes. A caller can't know
+//! There is a type of turns for each event of a connection, and one for the three by which it goes. A thread can't know
 //! whether its event is allowed now. So a turn notes its caller as the speaker, and tests whether the table of events
 //! allows the event. If it does, the turn makes the yard's call of its name, and answers which event that was.
 //! Otherwise nothing changed but the speaker, and the place of a connection that was to go stays counted. No turn waits
@@ -19,98 +19,79 @@ ghost use Rattle.server_yard.specs.Rooms.{KeepsRoom};
 ghost use Rattle.server_yard.specs.Seating.{GivesSeat, KeepsSerials};
 ghost use Rattle.server_yard.specs.Yards.{HasRun, IsRunOf, IsSameBeside, yard_books, yard_missing, yard_roll, yard_seat, yard_server};
 ghost use Rattle.server_yard.specs.declared.yard.AdmitFault.TheVariants.{Full, FullForAddress, Spent};
-ghost use Rattle.shared_site.specs.Callers.{CountsForIts, new_count};
 ghost use Rattle.shared_site.specs.Receipts.{AdmitsOrNot, MakesOrNot, Refuses, receipt_at, receipt_of, refused_as, shown_event};
-ghost use Rattle.shared_site.specs.Turns.{Answers, IsAt, IsLastOf, IsPassedOver, Makes, MayBeDecided, NotesAs, NotesBy, OpensBy, spoken_by, told_if_admitted, told_if_made, told_if_opened, told_then};
-ghost use Rattle.std.specs.Prelude.{◌≡◌, ◌+◌, ◌↔◌, ⊤, Bool, Err, IfErr, IfOk, IfSome, IsOk, IsTrue, List, None, OnErr, OnOk, Option, Some, ℕ, false, is_ok, is_some, length, true};
+ghost use Rattle.shared_site.specs.Turns.{Answers, IsAnswer, IsAt, IsLastOf, IsPassedOver, Makes, MayBeDecided, NotesAs, NotesBy, OpensBy, spoken_by, told_if_admitted, told_if_made, told_if_opened, told_then};
+ghost use Rattle.std.specs.Prelude.{◌≡◌, ◌↔◌, ⊤, Bool, Err, IfOk, IfSome, IsOk, IsTrue, List, None, OnErr, OnOk, Option, Some, ℕ, false, is_ok, is_some, true};
 ghost use Rattle.server_events.specs.declared.event.Event.TheVariants as event;
 
-use crate::caller::NewCallers;
-use crate::ground::{CallerOf, Ground, YardOf};
+use crate::ground::{Ground, YardOf};
 use crate::receipt::{EventSnapshot, Made, OutOfTurn, Refusal};
 use child_jobs::{Job, Place, Running};
 use rule_lookup::{Decision, Peer, Verdict};
 use server_events::{Event, Stage};
 use server_yard::{AdmitFault, Leaving, Pass, Yard};
 use std::snapshot::Snapshot;
-use std::sync::ledger::{Blank, Book, Ledger, Share};
+use std::sync::ledger::Ledger;
 use std::sync::{Mutex, Wait};
 
-// A yard, and how many events it had since the site was made.
+/// The number under which the events of a site are noted: it has one caller, whichever thread makes a turn.
+const SPEAKER: u64 = 0;
+
+// A yard, of which all events are those of this site.
 #[derive(Drop)]
 struct Guarded<G: Ground> {
     yard: YardOf<G>,
-    events: Book<G::Callers>,
-    // the shares together are that number
-    ghost counted: { G.Callers.before + events.total ≡ (yard_books yard).count },
-    // if the yard had no event before, its events are a run
-    ghost ran: { G.Callers.before ≡ 0 → HasRun yard },
+    ghost ran: { HasRun yard },
     ghost missing: { yard_missing yard ≡ G.missing },
 }
 
 impl<G: Ground> Guarded<G> {
-    // Runs a turn of a caller. The journal's number before and after the turn says how many events it made.
-    fn turn<T: Turn<G>>(&mut self, caller: &mut CallerOf<G>, turn: T) -> T::Answer
+    // Runs a turn.
+    fn turn<T: Turn<G>>(&mut self, turn: T) -> T::Answer
         requires may { T.may turn }
-        ensures counted { CountsForIts (T.answers turn) result caller.old caller.new }
+        ensures answered { IsAnswer (T.answers turn) result }
         // what turns tell, one after another, is a run
         ensures runs_on { (events : List Event) → IsRunOf events self.old.yard
             → IsRunOf (told_then events (T.tells turn result)) self.new.yard }
     {
-        let before = self.yard.journal().events();
-        let answer = turn.run(&mut self.yard, caller.number);
-        let made = self.yard.journal().events() - before;
-        self.events.add(&mut caller.share, made);
-        answer
+        turn.run(&mut self.yard, SPEAKER)
     }
 }
 
-/// A yard that many threads call, one turn after another. Each thread has a caller of its own, and each event belongs
-/// to one turn.
+/// A yard that many threads call, one turn after another.
 #[derive(Drop)]
 pub struct Site<G: Ground> {
     guarded: Mutex<Guarded<G>>,
 }
 
 impl<G: Ground> Site<G> {
-    /// A site, and so many callers, each with a part of `blank`. They have made no event.
-    pub fn new(blank: Blank, yard: YardOf<G>, callers: u64) -> (Site<G>, NewCallers<G::Callers>)
-        requires name { blank.name ≡ G.Callers.name }
-        requires parts { (blank.parts ≡ G.Callers.parts) × (blank.parts ≡ callers) }
-        requires before { G.Callers.before ≡ (yard_books yard).count }
+    /// A site over a yard that has had no event.
+    pub fn new(yard: YardOf<G>) -> Site<G>
+        requires new { (yard_books yard).count ≡ 0 }
         requires missing { yard_missing yard ≡ G.missing }
-        ensures callers { new_count result.1 ≡ callers }
     {
         yard.unbegun();
-        let (events, share) = blank.open::<G::Callers>();
-        let site = Site {
-            guarded: Mutex::new(Guarded { yard, events }),
-        };
-        (site, NewCallers::of(share, callers))
+        Site {
+            guarded: Mutex::new(Guarded { yard }),
+        }
     }
 
-    /// Makes a turn for a caller. It waits for the lock, runs the turn on the yard with the caller's number, and lets
-    /// the lock go. If the turn made an event, the caller's share grows by it. Under the lock nobody waits for anything
-    /// but what the turn itself waits for.
-    pub fn turn<R: Wait, T: Turn<G>>(&self, rt: &R, caller: &mut CallerOf<G>, turn: T) -> T::Answer
+    /// Makes a turn. It waits for the lock, runs the turn on the yard, and lets the lock go. Under the lock nobody
+    /// waits for anything but what the turn itself waits for.
+    pub fn turn<R: Wait, T: Turn<G>>(&self, rt: &R, turn: T) -> T::Answer
         requires may { T.may turn }
-        ensures counted { CountsForIts (T.answers turn) result caller.old caller.new }
+        ensures answered { IsAnswer (T.answers turn) result }
     {
-        self.guarded.lock(rt).turn(caller, turn)
+        self.guarded.lock(rt).turn(turn)
     }
 
-    /// The yard, for the share of all callers: none of them makes an event any more. Its history has as many events as
-    /// when the site was made, and those of the share. If it had no event before, there is a run that led to it, of
-    /// which `whole_yard::laws::whole_run` speaks: what its turns told, one after another.
-    pub fn close(self, all: Share<G::Callers>) -> YardOf<G>
-        requires all { all.parts ≡ G.Callers.parts }
-        ensures history { (yard_books result).count ≡ G.Callers.before + all.amount }
-        ensures ran { G.Callers.before ≡ 0 → HasRun result }
+    /// The yard. There is a run that led to it, of which `whole_yard::laws::whole_run` speaks: what its turns told, one
+    /// after another.
+    pub fn close(self) -> YardOf<G>
+        ensures ran { HasRun result }
     {
         let Site { guarded } = self;
-        let Guarded { yard, mut events } = guarded.into_inner();
-        let mut all = all;
-        events.audit(&mut all);
+        let Guarded { yard } = guarded.into_inner();
         yard
     }
 }

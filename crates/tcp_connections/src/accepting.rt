@@ -13,7 +13,7 @@ pub struct AcceptError {
 /// An accepted connection. It is closed once it is let go.
 #[derive(Drop)]
 pub struct Accepted<X> {
-    /// The connection itself, which its program is started with.
+    /// The connection itself, which starts its program.
     pub connection: X,
     /// The client's IPv4 address.
     pub ip: [u8; 4],

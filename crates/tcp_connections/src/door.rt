@@ -1,9 +1,11 @@
 //! The door: the value under whose lock connections are accepted and let in.
 ghost use Rattle.std.specs.Option.{ForSome};
-ghost use Rattle.std.specs.Prelude.{◌≡◌, ◌≢◌, ◌↔◌, ◌+◌, ◌≤◌, None, Some, false, IfSome, min, pos};
+ghost use Rattle.std.specs.Prelude.{◌≡◌, ◌≢◌, ◌↔◌, ◌+◌, ◌^◌, ◌<◌, ◌≤◌, None, Some, false, IfSome, min, pos};
+ghost use Rattle.tcp_connections.specs.Admissions.{let_in_by};
 ghost use Rattle.tcp_connections.specs.declared.serving.ServeEnd.TheVariants.{AcceptFaults, Count, Exhausted};
 
 use crate::accepting::{AcceptError, Acceptor};
+use crate::entrance::Entrance;
 use crate::means::{Permit, pause_after};
 use crate::serving::{Refused, ServeEnd, Serving};
 use std::time::Duration;
@@ -57,13 +59,14 @@ impl Faults {
 pub(crate) struct Door<A, V: Serving> {
     // where connections come from; none once nobody is let in any more
     acceptor: Option<A>,
-    entrance: V::Entrance,
+    entrance: Entrance,
     // how many more are let in before the server ends, if it ends by their number
     left: Option<u32>,
     // how it ended, if not by that
     end: Option<ServeEnd<V::Spent>>,
     faults: Faults,
-    ghost within: { ForSome left (λ more. V.count ≡ Some (V.let_in entrance + more)) },
+    ghost within: { ForSome left (λ more. V.count ≡ Some (let_in_by entrance + more)) },
+    ghost small: { ForSome left (λ more. let_in_by entrance + more < 2 ^ 32) },
     ghost endless: { left ≡ None → V.count ≡ None },
     ghost otherwise: { (end ≢ Some Count) × (end ≢ Some Exhausted) },
     ghost by_faults: { end ≡ Some AcceptFaults → faults.count ≡ 100 },
@@ -71,13 +74,12 @@ pub(crate) struct Door<A, V: Serving> {
 
 impl<A: Acceptor<Came = V::Came> + Drop, V: Serving> Door<A, V> {
     /// A door through which nobody came yet. The server ends once `count` were let in.
-    pub fn new(acceptor: A, entrance: V::Entrance, count: Option<u32>) -> Door<A, V>
-        requires nobody { V.let_in entrance ≡ 0 }
+    pub fn new(acceptor: A, count: Option<u32>) -> Door<A, V>
         requires count { V.count ≡ count }
     {
         Door {
             acceptor: Some(acceptor),
-            entrance,
+            entrance: Entrance::new(),
             left: count,
             end: None,
             faults: Faults::none(),
@@ -151,10 +153,10 @@ impl<A: Acceptor<Came = V::Came> + Drop, V: Serving> Door<A, V> {
         }
     }
 
-    /// How the server ended, its entrance, and the faults of accepting that came last. The acceptor is dropped.
-    pub fn into_end(self) -> (ServeEnd<V::Spent>, V::Entrance, Faults)
-        ensures count { (result.0 ≡ Count) ↔ (V.count ≡ Some (V.let_in result.1)) }
-        ensures no_more { ForSome V.count (λ most. V.let_in result.1 ≤ most) }
+    /// How the server ended, how many were let in, and the faults of accepting that came last. The acceptor is dropped.
+    pub fn into_end(self) -> (ServeEnd<V::Spent>, u64, Faults)
+        ensures count { (result.0 ≡ Count) ↔ (V.count ≡ Some result.1) }
+        ensures no_more { ForSome V.count (λ most. result.1 ≤ most) }
         ensures kept { result.2 ≡ self.faults }
         ensures faults { result.0 ≡ AcceptFaults → result.2.count ≡ 100 }
     {
@@ -166,10 +168,12 @@ impl<A: Acceptor<Came = V::Came> + Drop, V: Serving> Door<A, V> {
             faults,
         } = self;
         drop(acceptor);
+        let let_in = entrance.let_in();
+        drop(entrance);
         if left == Some(0) {
             drop(end);
-            return (ServeEnd::Count, entrance, faults);
+            return (ServeEnd::Count, let_in, faults);
         }
-        (end.unwrap_or(ServeEnd::Exhausted), entrance, faults)
+        (end.unwrap_or(ServeEnd::Exhausted), let_in, faults)
     }
 }

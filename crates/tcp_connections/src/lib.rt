@@ -1,5 +1,5 @@
 //! TCP connections, without rules and logs: where they come from, the names of their two ends, the workers that accept
-//! and serve them, the start of a child, and the wait for its end.
+//! and serve them, and the wait for the end of a child.
 //!
 //! The server uses `Workers::serve_through`: if it ends by its count, it let in exactly that many. It alone starts
 //! threads. A connection is a value that each call of `Serving` passes on, or answers as over. Dropping a `GoingOn`
@@ -11,21 +11,21 @@
 
 pub mod accepting;
 pub mod door;
+pub mod entrance;
 mod means;
 pub mod names;
 pub mod rounds;
 pub mod serving;
-pub mod starting;
 pub mod supply;
 mod threads;
 pub mod workers;
 
 pub use accepting::{AcceptError, Accepted, Acceptor};
 pub use door::Faults;
+pub use entrance::Entrance;
 pub use means::pause_after;
 pub use names::HostNames;
 pub use rounds::wait_in_rounds;
 pub use serving::{Refused, ServeEnd, Serving};
-pub use starting::{ConnectionLauncher, Greeter, Starter};
 pub use supply::{Memory, Reserve, Supply};
 pub use workers::Workers;

@@ -2,6 +2,8 @@
 ghost use Rattle.std.specs.Prelude.{◌≡◌, ℕ, Bool, Option, IfOk};
 ghost use Rattle.tcp_connections.specs.Admissions.{LetsIn};
 
+use crate::entrance::Entrance;
+
 /// How a server ended. An `S` is evidence that nobody can be let in any more.
 #[derive(Drop)]
 pub enum ServeEnd<S> {
@@ -29,9 +31,6 @@ pub trait Serving {
     /// A connection that came.
     type Came: Send + Drop;
 
-    /// What lets connections in, one after another.
-    type Entrance: Send + Drop;
-
     /// Evidence that nobody can be let in any more: only a refusal makes one.
     type Spent: Send + Drop;
 
@@ -50,23 +49,20 @@ pub trait Serving {
     /// How many are let in at most, if there is such a number.
     ghost count: { Option ℕ };
 
-    /// How many an entrance let in.
-    ghost let_in: { Self.Entrance → ℕ };
-
     /// Whether a connection that is over was retired.
     ghost retired: { Self.Over → Bool };
 
-    /// Lets a connection in.
+    /// Lets a connection in, and counts it.
     ///
     /// # Errors
     /// It was refused, and is closed.
     fn admit(
         &self,
-        entrance: &mut Self::Entrance,
+        entrance: &mut Entrance,
         came: Self::Came,
     ) -> Result<Self::Work, Refused<Self::Spent>>
         ensures its { IfOk result (is_its self.now came) }
-        ensures came { LetsIn result (let_in entrance.old) (let_in entrance.new) };
+        ensures came { LetsIn result entrance.old entrance.new };
 
     /// Serves a connection up to the start of its program.
     ///

@@ -53,7 +53,7 @@ where
     let _ = connection_thread().spawn_scoped(
         scope,
         move ||
-            requires { IsSync R.row × IsSync V.row × IsSend V.Entrance.row × IsSend V.Alive.row }
+            requires { IsSync R.row × IsSync V.row × IsSend V.Alive.row }
         { drop(going_on) },
     );
 }

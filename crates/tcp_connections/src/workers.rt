@@ -47,45 +47,39 @@ where
     A: Acceptor<Came = V::Came> + Send + Drop,
 {
     /// Lets connections of `acceptor` in until `count` were let in or no more can be. Then it drops the acceptor, waits
-    /// until all that were let in are over, and gives `entrance` back with the faults of accepting that came last. At
-    /// most `most` connections are alive at once. Each worker accepts one, lets it in, and serves it until its program
-    /// runs. While few are served, the worker waits for that program too. Otherwise a new thread does, and ends with
-    /// the connection. This thread makes one more worker whenever none waits for a connection.
+    /// until all that were let in are over, and answers how many these were, and the faults of accepting that came
+    /// last. At most `most` connections are alive at once. Each worker accepts one, lets it in, and serves it until its
+    /// program runs. While few are served, the worker waits for that program too. Otherwise a new thread does, and ends
+    /// with the connection. This thread makes one more worker whenever none waits for a connection.
     ///
-    /// The count begins at 0, since nobody was let in by `entrance` before. By faults of accepting it ends only if a
-    /// hundred came since the last connection, or if `supply` has too few descriptors for one connection.
+    /// By faults of accepting it ends only if a hundred came since the last connection, or if `supply` has too few
+    /// descriptors for one connection.
     pub fn serve_through(
         rt: &'a R,
         alloc: Global,
         acceptor: A,
-        entrance: V::Entrance,
         server: &'a V,
         most: u64,
         count: Option<u32>,
         supply: Supply,
         reserve: &'a Reserve,
-    ) -> (ServeEnd<V::Spent>, V::Entrance, Faults)
-        requires nobody { V.let_in entrance ≡ 0 }
+    ) -> (ServeEnd<V::Spent>, u64, Faults)
         requires count { V.count ≡ count }
-        ensures count { result.0 ≡ Count → count ≡ Some (V.let_in result.1) }
-        ensures no_more { ForSome count (λ most. V.let_in result.1 ≤ most) }
-        ensures reached { IsTrue (suffices supply) → count ≡ Some (V.let_in result.1) → result.0 ≡ Count }
+        ensures count { result.0 ≡ Count → count ≡ Some result.1 }
+        ensures no_more { ForSome count (λ most. result.1 ≤ most) }
+        ensures reached { IsTrue (suffices supply) → count ≡ Some result.1 → result.0 ≡ Count }
         ensures faults { result.0 ≡ AcceptFaults → FailedToAccept (suffices supply) result.2.count }
         ensures lacking { suffices supply ≡ false → result.2.last ≡ Some (pos 24) }
     {
         if !supply.suffices() {
             drop(acceptor);
-            return (
-                ServeEnd::AcceptFaults,
-                entrance,
-                Faults::of_too_few_descriptors(),
-            );
+            return (ServeEnd::AcceptFaults, 0, Faults::of_too_few_descriptors());
         }
         let means = Means::new(supply, most);
         let workers = Workers {
             rt,
             server,
-            door: Mutex::new(Door::new(acceptor, entrance, count)),
+            door: Mutex::new(Door::new(acceptor, count)),
             memory: MemoryLook::new(alloc, supply),
             has_reserve: supply.has_reserve(),
             means: &means,
@@ -103,7 +97,7 @@ where
             thread::scope_env(),
             workers.rt,
             move |scope|
-                requires { IsSync R.row × IsSync V.row × IsSend V.Entrance.row × IsSend V.Spent.row
+                requires { IsSync R.row × IsSync V.row × IsSend V.Spent.row
                     × IsSend V.Alive.row × IsSend A.row }
             {
                 if !workers.has_reserve || !start_waiting(scope, workers.rt, workers.reserve) {
@@ -149,7 +143,7 @@ where
             .spawn_scoped(
                 scope,
                 move ||
-                    requires { IsSync R.row × IsSync V.row × IsSend V.Entrance.row × IsSend V.Spent.row
+                    requires { IsSync R.row × IsSync V.row × IsSend V.Spent.row
                         × IsSend V.Alive.row × IsSend A.row }
                 { workers.come_to_work(scope, number, beginning) },
             )

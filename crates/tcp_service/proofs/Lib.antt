@@ -1,4 +1,3 @@
 pub mod Asked
 pub mod Found
 pub mod Served
-pub mod Shares

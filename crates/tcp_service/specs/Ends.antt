@@ -1,14 +1,13 @@
 -- What the values of a connection's life are evidence of.
-use Rattle.std.specs.Prelude.{Bool, false, Option, Result, Ok, Err, option_map}
+use Rattle.std.specs.Prelude.{Option, option_map}
 use Rattle.std.specs.declared.snapshot.Snapshot.{Snapshot}
 use Rattle.server_events.specs.declared.event.Event.{Event}
 use Rattle.shared_site.specs.Receipts.{made_event}
 use Rattle.shared_site.specs.declared.receipt.Made.{Made}
 use Rattle.tcp_service.specs.Lives.{asked}
-use Rattle.tcp_service.specs.Servings.{is_cut_short}
-use Rattle.tcp_service.specs.declared.life.Over.{Over}
 use Rattle.tcp_service.specs.declared.telling.Begun.{Begun}
 use Rattle.tcp_service.specs.declared.telling.Noted.{Noted}
+use Rattle.tcp_service.specs.declared.telling.Over.{Over}
 
 -- the event that notes a decision
 abbrev pub noted_event : Noted → Event
@@ -27,8 +26,3 @@ over_decided over = option_map (λ (made : Snapshot Made). made_event made.value
 
 abbrev pub over_end : Over → Event
 over_end over = asked over.last.value
-
--- a connection was given up since its banner could not be sent
-abbrev pub is_cut : {T : Type 0} → Result T Over → Bool
-is_cut (Ok alive) = false
-is_cut (Err over) = is_cut_short (over_end over)

@@ -15,13 +15,6 @@ abbrev pub asked : Result Made OutOfTurn → Event
 asked (Ok made) = made_event made
 asked (Err refusal) = refused_event refusal
 
--- it is an answer that a turn may give, to some caller after some events
-pub record IsAnswer {T : Type 0} (answers : ℕ → ℕ → T → ℕ → Type 0) (answer : T) : Type 0 where
-  pub who : ℕ
-  pub before : ℕ
-  pub after : ℕ
-  pub answered : answers who before answer after
-
 -- where a client is let in, the event that was made is the admission of it, by the serial that it has
 abbrev pub AdmitsOwn : {P E : Type 0} → Result (ℕ × P × Made) E → Client → Type 0
 AdmitsOwn answer client = IfOk answer (λ r. made_event r.2 ≡ Admitted r.0 client)

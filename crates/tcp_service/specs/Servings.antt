@@ -1,15 +1,12 @@
 -- How one connection is served, up to the start of its program.
-use Rattle.std.specs.Prelude.{◌≡◌, ◌≢◌, ◌++◌, ◌∷◌, ⊤, ℕ, Bool, true, false, IsTrue, List, [], Option, None, Some}
-use Rattle.std.specs.Io.KnownBytes.{Appends}
+use Rattle.std.specs.Prelude.{◌≡◌, ◌≢◌, ⊤, ℕ, Bool, IsTrue, List, [], Option, None, Some}
 use Rattle.child_jobs.specs.Child.{environment_of}
-use Rattle.child_jobs.specs.Ends.{LocalEnd}
 use Rattle.child_jobs.specs.Plans.{PlanText}
 use Rattle.child_jobs.specs.Programs.{ProgramText}
 use Rattle.child_jobs.specs.Variables.{Variables}
 use Rattle.child_jobs.specs.declared.outcome.DropCause.{DropCause}
 use Rattle.child_jobs.specs.declared.outcome.DropCause.TheVariants as cause
 use Rattle.child_jobs.specs.declared.outcome.NotStarted.{NotStarted}
-use Rattle.child_jobs.specs.declared.outcome.StartFault.{StartFault}
 use Rattle.rule_lookup.specs.Peers.{Client}
 use Rattle.rule_lookup.specs.declared.decision.DecideFault.{DecideFault}
 use Rattle.rule_lookup.specs.declared.decision.Decision.{Decision}
@@ -17,17 +14,13 @@ use Rattle.rule_lookup.specs.declared.instr.Verdict.{Verdict}
 use Rattle.rule_lookup.specs.declared.instr.Verdict.TheVariants.{Allow, Deny}
 use Rattle.server_events.specs.declared.event.Event.{Event}
 use Rattle.server_events.specs.declared.event.Event.TheVariants.{Decided, Dropped, StartFailed}
+use Rattle.tcp_service.specs.Greetings.{IsGreeted}
 use Rattle.tcp_service.specs.Openings.{Decides, FailsToDecide, Opening, cause_of}
+use Rattle.tcp_service.specs.declared.guest.Identity.{Identity}
 
 -- how a program with these variables may be refused
 abbrev pub Refuses : Type 1
 Refuses = ProgramText → Variables → NotStarted → Type 0
-
--- a program was refused in a way in which it may be, of which this fault is told
-pub record RefusesBy (refuses : NotStarted → Type 0) (fault : StartFault) : Type 0 where
-  pub refusal : NotStarted
-  pub refused : refuses refusal
-  pub told : fault ≡ refusal.fault
 
 -- the decision by something that may be found fails, for this cause
 pub record FailsFor (finds : Opening → Type 0) (honest sound : Bool) (peer : Client) (why : DropCause) : Type 0 where
@@ -47,19 +40,18 @@ GivesUp fails banner cause.ReadFault = fails cause.ReadFault
 GivesUp fails banner cause.Damaged = fails cause.Damaged
 GivesUp fails banner cause.Memory = ⊤
 
--- a connection with this serial, these ends and this plan, and what may be found for it
-module _ (finds : (serial : ℕ) → Opening → Type 0) (honest sound : Bool) (serial : ℕ) (peer : Client) (local : LocalEnd)
-    (plan : PlanText) where
+-- a connection with this plan, and what may be found for it
+module _ (finds : (serial : ℕ) → Opening → Type 0) (honest sound : Bool) (identity : Identity) (plan : PlanText) where
   -- By what may be found a connection was decided with this verdict, and this event notes it. These are the variables
   -- that the decision gives.
   pub record IsDecided (event : Event) (verdict : Verdict) (environment : Variables) : Type 0 where
     pub found : Opening
-    pub was_found : finds serial found
+    pub was_found : finds identity.serial found
     pub decision : Decision
-    pub by_rules : Decides honest sound found peer decision
-    pub noted : event ≡ Decided serial decision
+    pub by_rules : Decides honest sound found identity.peer decision
+    pub noted : event ≡ Decided identity.serial decision
     pub same : verdict ≡ decision.verdict
-    pub given : environment ≡ environment_of plan.inherited local peer decision
+    pub given : environment ≡ environment_of plan.inherited identity.local identity.peer decision
 
   -- a program of a connection that this event allows: the plan's, with the variables of that decision
   pub record IsChild (event : Event) (program : ProgramText) (environment : Variables) : Type 0 where
@@ -72,46 +64,36 @@ module _ (finds : (serial : ℕ) → Opening → Type 0) (honest sound : Bool) (
 
   -- the plan's program may be started with the variables of each decision to allow
   abbrev pub MayStart : (may : ProgramText → Variables → Bool) → Type 0
-  MayStart may =
-      (event : Event) (environment : Variables) → IsDecided event Allow environment → IsTrue (may plan.program environment)
+  MayStart may = (event : Event) (environment : Variables)
+      → IsDecided event Allow environment → IsTrue (may plan.program environment)
 
   -- a connection was denied by the decision that this event notes
   pub record IsDenied (event : Event) : Type 0 where
     pub environment : Variables
     pub denied : IsDecided event Deny environment
 
-  -- the plan's program was refused with the variables of the decision to allow that this event notes
-  pub record IsRefused (refuses : Refuses) (event : Event) (fault : StartFault) : Type 0 where
+  -- the plan's program was refused with the variables of the decision to allow that the first event notes, in a way in
+  -- which it may be; the second event tells that
+  pub record FailsToStart (refuses : Refuses) (event end : Event) : Type 0 where
     pub environment : Variables
     pub allowed : IsDecided event Allow environment
-    pub refused : RefusesBy (refuses plan.program environment) fault
+    pub refusal : NotStarted
+    pub refused : refuses plan.program environment refusal
+    pub told : end ≡ StartFailed identity.serial refusal.fault
 
   -- A connection was served, and no program of it runs: it was dropped undecided; or by the event that notes its
   -- decision it was denied, or its program could not be started. This event ends it.
   abbrev pub EndsFor : Refuses → (decided : Option Event) → (end : Event) → Type 0
-  EndsFor refuses None (Dropped n why) = (n ≡ serial) × GivesUp (FailsFor (finds serial) honest sound peer) plan.banner why
-  EndsFor refuses (Some event) (Dropped n cause.Denied) = (n ≡ serial) × IsDenied event
-  EndsFor refuses (Some event) (StartFailed n fault) = (n ≡ serial) × IsRefused refuses event fault
+  EndsFor refuses None (Dropped n why) =
+      (n ≡ identity.serial) × GivesUp (FailsFor (finds identity.serial) honest sound identity.peer) plan.banner why
+  EndsFor refuses (Some event) (Dropped n cause.Denied) = (n ≡ identity.serial) × IsDenied event
+  EndsFor refuses (Some event) (StartFailed n fault) = FailsToStart refuses event (StartFailed n fault)
   EndsFor refuses decided end = ⊥
 
--- a program may be started for each connection, with the variables of each decision to allow it
+-- the program of a connection may be started once the banner was the last that was written to it, with the variables of
+-- each decision to allow a connection
 abbrev pub MayStartEach : {X : Type 0} → (finds : (serial : ℕ) → Opening → Type 0) → (honest sound : Bool) → PlanText
-    → (may : X → ProgramText → Variables → Bool) → Type 0
-MayStartEach {X = X} finds honest sound plan may =
-    (connection : X) (serial : ℕ) (peer : Client) (local : LocalEnd)
-    → MayStart finds honest sound serial peer local plan (may connection)
-
--- a writer took the first of these bytes, and not all of them
-abbrev pub AppendsFront : (old new : Option (List ℕ)) → List ℕ → Type 0
-AppendsFront old new bytes =
-    (written : List ℕ) × (left : ℕ) × (more : List ℕ) × (bytes ≡ written ++ left ∷ more) × Appends old new written
-
--- a writer took the whole banner; or, if it failed, not all of it
-abbrev pub Greets : (old new : Option (List ℕ)) → (banner : List ℕ) → (is_cut : Bool) → Type 0
-Greets old new banner false = Appends old new banner
-Greets old new banner true = AppendsFront old new banner
-
--- a connection ends by this event since its banner could not be sent
-abbrev pub is_cut_short : Event → Bool
-is_cut_short (Dropped n cause.Banner) = true
-is_cut_short event = false
+    → (contents : X → Option (List ℕ)) → (may : X → ProgramText → Variables → Bool) → Type 0
+MayStartEach {X = X} finds honest sound plan contents may =
+    (accepted connection : X) (identity : Identity) → IsGreeted contents plan.banner accepted connection
+    → MayStart finds honest sound identity plan (may connection)

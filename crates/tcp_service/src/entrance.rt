@@ -1,6 +1,5 @@
 //! How a connection that was accepted is let in: named and counted.
 ghost use Rattle.std.specs.Prelude.{◌≡◌, ⊤, IfSome};
-ghost use Rattle.shared_site.specs.Callers.{caller_share};
 ghost use Rattle.server_yard.specs.declared.yard.AdmitFault.TheVariants.{Spent};
 ghost use Rattle.shared_site.specs.Receipts.{AdmitsOrNot, refusal_fault};
 ghost use Rattle.shared_site.specs.Turns.{told_if_admitted};
@@ -15,10 +14,10 @@ use rule_lookup::Peer;
 use server_log::{Log, Told};
 use server_yard::AdmitFault;
 use shared_site::site::Admit;
-use shared_site::{CallerOf, Ground, Made, Refusal, Turn, YardOf};
+use shared_site::{Ground, Made, Refusal, Turn, YardOf};
 use std::alloc::Global;
 use std::sync::Mutex;
-use tcp_connections::{Accepted, HostNames, Refused};
+use tcp_connections::{Accepted, Entrance, HostNames, Refused};
 
 /// The two ends of a connection that came, with their names, if there is memory for them.
 pub(crate) fn ends_of<X>(
@@ -41,23 +40,25 @@ pub struct NoNumbers {
     ghost spent: { refusal_fault refusal ≡ Spent },
 }
 
-/// Counts a connection, by a caller of the site that makes no other events: its share is how many were let in. It gives
-/// a serial and a place.
+/// Lets a connection in, and counts it. It gives a serial and a place.
 ///
 /// # Errors
 /// It was refused. Nobody was let in.
-#[tactic(auto, using(crate::proofs::Shares::one_came, crate::proofs::Shares::none_came, crate::proofs::Shares::own_came))]
+#[tactic(auto, using(crate::proofs::Asked::own_came))]
 pub(crate) fn admit<G: ServiceGround>(
     context: &Context<'_, G>,
-    admitter: &mut CallerOf<G>,
+    entrance: &mut Entrance,
     peer: &Peer,
 ) -> Result<AdmittedBy<G>, Refused<NoNumbers>>
-    ensures came { LetsIn result (caller_share admitter.old) (caller_share admitter.new) }
+    ensures came { LetsIn result entrance.old entrance.new }
     ensures own { AdmitsOwn result peer.now }
 {
     let (rt, site, log) = (context.rt, context.site, context.log);
-    match site.turn(rt, admitter, TellingAdmission::<G> { peer, rt, log }) {
-        Ok(admitted) => Ok(admitted),
+    match site.turn(rt, TellingAdmission::<G> { peer, rt, log }) {
+        Ok(admitted) => {
+            entrance.let_one_in();
+            Ok(admitted)
+        }
         Err(refusal) => match refusal.fault() {
             AdmitFault::Spent => Err(Refused::Spent(NoNumbers { refusal })),
             _ => Err(Refused::Once),

@@ -2,14 +2,13 @@
 ghost use Rattle.std.specs.Prelude.{ℕ, List, Option, IfOk};
 ghost use Rattle.std.specs.Option.{option_map};
 
-use child_jobs::Job;
+use child_jobs::{Job, Launcher};
 use dir_calls::{DirFault, RulesFile};
 use rule_lookup::Peer;
 use shared_site::Ground;
 use std::alloc::{AllocError, Global};
 use std::io::Write;
 use std::sync::Wait;
-use tcp_connections::Starter;
 
 /// What a server's connections are decided and told by: the runtime, the rules and the log, beside the ground of their
 /// site. It is a name for these types together, and has no values.
@@ -34,14 +33,14 @@ pub trait ServiceGround: Ground {
 /// `Sync` and `Send` are asked for where threads start: the prover takes no method of a trait that calls a function
 /// with such a bound.
 pub trait Host: ServiceGround {
-    /// A connection, which is closed once it is let go.
-    type Connection: Drop;
-
-    /// What starts the programs of connections.
-    type Starter: Starter<Self::Connection, Job = Self::Job>;
+    /// A connection: a writer to its client, which starts its program. It is closed once it is let go.
+    type Connection: Write + Launcher<Job = Self::Job> + Drop;
 
     /// The program of a connection while it runs.
     type Job: Job;
+
+    /// How many connections the server is to let in, if there is such a number.
+    ghost admissions: { Option ℕ };
 }
 
 /// Where the rules stand that each connection opens for itself.

@@ -6,12 +6,12 @@ ghost use Rattle.tcp_service.specs.Ends.{noted_event};
 ghost use Rattle.tcp_service.specs.Openings.{IsFoundFor, cause_of, cause_of_open, opening_of};
 ghost use Rattle.tcp_service.specs.Servings.{FailsFor, GivesUp, IsDecided};
 
-use crate::greeting::Greeted;
+use crate::guest::{Greeted, Identity};
 use crate::host::{Rules, RulesHandle, ServiceGround};
-use crate::reasons::{Reason, words_of};
+use crate::reasons::{GivenUp, Reason, words_of};
 use crate::server::Context;
 use crate::telling::Noted;
-use child_jobs::{DropCause, Environment, Local, build};
+use child_jobs::{DropCause, Environment, build};
 use dir_calls::DirFault;
 use rule_lookup::{DecideFault, FindFault, Peer, Verdict, decide};
 use server_yard::Pass;
@@ -21,13 +21,6 @@ pub(crate) struct Judged {
     pub noted: Noted,
     pub verdict: Verdict,
     pub environment: Environment,
-}
-
-/// Why a connection is given up, and what the log tells of it.
-#[derive(Drop)]
-pub(crate) struct GivenUp {
-    pub cause: DropCause,
-    pub reason: Option<Reason>,
 }
 
 // The cause with which a connection is dropped if the rules can't be opened.
@@ -52,23 +45,24 @@ fn cause_of(fault: DecideFault) -> DropCause
 }
 
 impl<G: ServiceGround> Context<'_, G> {
-    // Opens the rules for the connection with this serial number.
+    ghost use Rattle.tcp_service.specs.Greetings.{greeted_identity, greeted_with};
+
+    // Opens the rules for a connection.
     #[tactic(auto, using(crate::proofs::Found::found_for))]
-    fn open(
+    fn open<X>(
         &self,
-        greeted: Greeted<'_>,
+        greeted: &Greeted<'_, X>,
         handle: &mut G::Handle,
-        serial: u64,
     ) -> Result<Pass<G::Places, G::File>, DropCause>
-        requires greeted { greeted.banner.now ≡ self.now.plan.now.banner }
+        requires greeted { greeted_with greeted.now ≡ self.now.plan.now.banner }
         requires new { G.Rules.gives self.now.rules.now handle.old }
-        ensures its { IfOk result (λ pass. pass_serial pass ≡ serial) }
-        ensures found { IfOk result (λ pass. IsFoundFor (G.Rules.gives self.now.rules.now)
-            G.Handle.opened G.missing serial (opening_of G.File.bytes pass)) }
+        ensures its { IfOk result (λ pass. pass_serial pass ≡ (greeted_identity greeted.now).serial) }
+        ensures found { IfOk result (λ pass. IsFoundFor (G.Rules.gives self.now.rules.now) G.Handle.opened G.missing
+            (greeted_identity greeted.now).serial (opening_of G.File.bytes pass)) }
         ensures given_up { IfErr result (GivesUp (λ _. ⊥) []) }
     {
-        match handle.open(self.alloc, serial) {
-            Ok(file) => self.opened(greeted, serial, file),
+        match handle.open(self.alloc, greeted.identity.serial) {
+            Ok(file) => self.opened(greeted, file),
             Err(fault) => Err(cause_of_open(fault)),
         }
     }
@@ -76,25 +70,24 @@ impl<G: ServiceGround> Context<'_, G> {
     // Opens the rules for a connection, decides it by them, makes the variables for its program, and notes the
     // decision.
     #[tactic(auto, using(crate::proofs::Served::given_up_anyway))]
-    fn judge(
+    fn judge<X>(
         &self,
-        greeted: Greeted<'_>,
+        greeted: &Greeted<'_, X>,
         handle: &mut G::Handle,
-        serial: u64,
-        peer: &Peer,
-        local: &Local,
     ) -> Result<Judged, DropCause>
-        requires greeted { greeted.banner.now ≡ self.now.plan.now.banner }
+        requires greeted { greeted_with greeted.now ≡ self.now.plan.now.banner }
         requires new { G.Rules.gives self.now.rules.now handle.old }
         ensures judged { IfOk result (λ judged. IsDecided
             (IsFoundFor (G.Rules.gives self.now.rules.now) G.Handle.opened G.missing)
-            G.File.honest G.File.sound serial peer.now local.now self.now.plan.now
+            G.File.honest G.File.sound (greeted_identity greeted.now) self.now.plan.now
             (noted_event judged.noted) judged.verdict judged.environment) }
         ensures given_up { IfErr result (GivesUp
-            (FailsFor (IsFoundFor (G.Rules.gives self.now.rules.now) G.Handle.opened G.missing serial)
-            G.File.honest G.File.sound peer.now) []) }
+            (FailsFor (IsFoundFor (G.Rules.gives self.now.rules.now) G.Handle.opened G.missing
+            (greeted_identity greeted.now).serial)
+            G.File.honest G.File.sound (greeted_identity greeted.now).peer) []) }
     {
-        let pass = self.open(greeted, handle, serial)?;
+        let pass = self.open(greeted, handle)?;
+        let Identity { peer, local, .. } = &greeted.identity;
         let decision = match decide(self.alloc, pass.source(), pass.missing(), peer) {
             Ok(decision) => decision,
             Err(fault) => {
@@ -109,7 +102,7 @@ impl<G: ServiceGround> Context<'_, G> {
             return Err(DropCause::Memory);
         };
         let verdict = decision.verdict;
-        match self.decided(pass, peer, local, decision) {
+        match self.decided(pass, &greeted.identity, decision) {
             Ok(noted) => Ok(Judged {
                 noted,
                 verdict,
@@ -126,36 +119,30 @@ impl<G: ServiceGround> Context<'_, G> {
     ///
     /// # Errors
     /// The rules can't be opened or read, or are damaged; or there was no memory. It is not decided.
-    pub(crate) fn decide(
-        &self,
-        greeted: Greeted<'_>,
-        serial: u64,
-        peer: &Peer,
-        local: &Local,
-    ) -> Result<Judged, GivenUp>
-        requires greeted { greeted.banner.now ≡ self.now.plan.now.banner }
+    pub(crate) fn decide<X>(&self, greeted: &Greeted<'_, X>) -> Result<Judged, GivenUp>
+        requires greeted { greeted_with greeted.now ≡ self.now.plan.now.banner }
         ensures judged { IfOk result (λ judged. IsDecided
             (IsFoundFor (G.Rules.gives self.now.rules.now) G.Handle.opened G.missing)
-            G.File.honest G.File.sound serial peer.now local.now self.now.plan.now
+            G.File.honest G.File.sound (greeted_identity greeted.now) self.now.plan.now
             (noted_event judged.noted) judged.verdict judged.environment) }
         ensures given_up { IfErr result (λ up. GivesUp
-            (FailsFor (IsFoundFor (G.Rules.gives self.now.rules.now) G.Handle.opened G.missing serial)
-            G.File.honest G.File.sound peer.now) [] up.cause) }
+            (FailsFor (IsFoundFor (G.Rules.gives self.now.rules.now) G.Handle.opened G.missing
+            (greeted_identity greeted.now).serial)
+            G.File.honest G.File.sound (greeted_identity greeted.now).peer) [] up.cause) }
     {
         let Ok(mut handle) = self.rules.handle(self.alloc) else {
-            drop(greeted);
             return Err(GivenUp {
                 cause: DropCause::Memory,
                 reason: None,
             });
         };
-        match self.judge(greeted, &mut handle, serial, peer, local) {
+        match self.judge(greeted, &mut handle) {
             Ok(judged) => {
                 drop(handle);
                 Ok(judged)
             }
             Err(cause) => {
-                let reason = self.reason_of(&handle, cause, peer);
+                let reason = self.reason_of(&handle, cause, &greeted.identity.peer);
                 drop(handle);
                 Err(GivenUp { cause, reason })
             }

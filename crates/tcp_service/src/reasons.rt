@@ -21,6 +21,13 @@ pub(crate) enum Reason {
     Rule(String),
 }
 
+/// Why a connection is given up undecided, and what the log tells of it.
+#[derive(Drop)]
+pub(crate) struct GivenUp {
+    pub cause: DropCause,
+    pub reason: Option<Reason>,
+}
+
 impl Reason {
     /// The cause for the log, for rules at this path.
     pub(crate) fn cause<'a>(&'a self, rules: &'a str) -> Cause<'a> {

@@ -6,7 +6,7 @@ use crate::host::{Host, ServiceGround};
 use child_jobs::Plan;
 use server_log::Log;
 use server_words::ConnectionLimits;
-use shared_site::{CallerOf, Site};
+use shared_site::Site;
 use std::alloc::Global;
 use std::sync::Mutex;
 use tcp_connections::{HostNames, Reserve, Supply};
@@ -20,8 +20,6 @@ pub struct Context<'a, G: ServiceGround> {
     pub alloc: Global,
     /// Where their events are made.
     pub site: &'a Site<G>,
-    /// The caller of the site that makes all events but admissions.
-    pub teller: &'a Mutex<CallerOf<G>>,
     /// The rules, which each connection opens for itself.
     pub rules: &'a G::Rules,
     /// The program, its variables and the banner.
@@ -30,18 +28,16 @@ pub struct Context<'a, G: ServiceGround> {
     pub log: &'a Mutex<Log<G::Lines>>,
 }
 
-/// What all connections of a server share. Its starter may be asked for the programs of connections that are allowed
-/// (`may`): code that is generic in the host knows of no others.
+/// What all connections of a server share. A connection may start its program once it was greeted and allowed (`may`):
+/// code that is generic in the host knows of no other start.
 #[derive(Drop)]
 pub struct Server<'a, H: Host> {
     /// What connections are decided and told by.
     pub context: Context<'a, H>,
-    /// What starts their programs.
-    pub starter: &'a H::Starter,
     /// What is done for all of them.
     pub service: &'a Service,
     pub ghost may: { MayStartEach (IsFoundFor (H.Rules.gives context.rules.now) H.Handle.opened H.missing)
-        H.File.honest H.File.sound context.plan.now (H.Starter.may starter.now) },
+        H.File.honest H.File.sound context.plan.now H.Connection.contents H.Connection.may },
 }
 
 /// What a server does for all of its connections.

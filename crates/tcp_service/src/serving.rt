@@ -1,38 +1,37 @@
 //! How a server's connections are served: by the calls that `Workers` makes for each.
 ghost use Rattle.std.specs.Prelude.{◌≡◌, IfOk, IfErr};
 ghost use Rattle.child_jobs.specs.Runs.{job_of, place_of};
-ghost use Rattle.shared_site.specs.Callers.{caller_share};
 ghost use Rattle.tcp_service.specs.Accepting.{IsAccepted};
 ghost use Rattle.tcp_service.specs.Ends.{over_decided, over_end};
+ghost use Rattle.tcp_service.specs.Greetings.{RefusesGreeted, guest_connection, guest_identity};
 ghost use Rattle.tcp_service.specs.Lives.{IsEndOfChild};
 ghost use Rattle.tcp_service.specs.Openings.{IsFoundFor};
 ghost use Rattle.tcp_service.specs.Servings.{EndsFor, IsDecidedChild};
 
 use crate::entrance::{NoNumbers, admit, ends_of};
+use crate::guest::{Guest, Identity};
 use crate::host::Host;
-use crate::life::{Admitted, Alive, Over};
+use crate::judging::Judged;
+use crate::life::{Admitted, Alive};
 use crate::server::Server;
-use shared_site::CallerOf;
+use crate::telling::Over;
+use rule_lookup::Verdict;
 use std::snapshot::Snapshot;
-use tcp_connections::{Accepted, Greeter, Refused, Serving, wait_in_rounds};
+use tcp_connections::{Accepted, Entrance, Refused, Serving, wait_in_rounds};
 
 impl<H> Serving for Server<'_, H>
 where
     H: Host,
     H::Runtime: Sync,
     H::Places: Send + Sync,
-    H::Callers: Send + Sync,
     H::File: Send,
     H::Handle: Send,
     H::Rules: Sync,
     H::Lines: Send,
     H::Connection: Send,
-    H::Starter: Sync,
     H::Job: Send,
 {
     type Came = Accepted<H::Connection>;
-
-    type Entrance = CallerOf<H>;
 
     type Spent = NoNumbers;
 
@@ -43,18 +42,16 @@ where
     type Over = Over;
 
     ghost is_its = { λ server came admitted.
-        IsAccepted server.service.now.names admitted.peer admitted.local admitted.connection came };
+        IsAccepted server.service.now.names admitted.guest came };
 
-    ghost count = { H.Callers.admissions };
-
-    ghost let_in = { λ admitter. caller_share admitter };
+    ghost count = { H.admissions };
 
     ghost retired = { λ over. over.is_retired };
 
     /// A connection gets the names of its ends, and is counted.
     fn admit(
         &self,
-        admitter: &mut CallerOf<H>,
+        entrance: &mut Entrance,
         came: Accepted<H::Connection>,
     ) -> Result<Admitted<H>, Refused<NoNumbers>> {
         let context = &self.context;
@@ -63,15 +60,19 @@ where
             let _ = context.log.lock(context.rt).out_of_memory();
             return Err(Refused::Once);
         };
-        match admit(context, admitter, &peer) {
-            Ok((serial, place, made)) => Ok(Admitted {
-                serial,
-                place,
-                peer,
-                local,
-                connection: came.connection,
-                made: Snapshot::of(&made),
-            }),
+        match admit(context, entrance, &peer) {
+            Ok((serial, place, made)) => {
+                let identity = Identity {
+                    serial,
+                    peer,
+                    local,
+                };
+                Ok(Admitted {
+                    guest: Guest::new(identity, came.connection),
+                    place,
+                    made: Snapshot::of(&made),
+                })
+            }
             Err(refused) => {
                 drop(came);
                 drop(peer);
@@ -81,45 +82,69 @@ where
         }
     }
 
-    /// A connection is served, and goes on if its program was started.
+    /// A connection is served up to the start of its program (UCSPI-1996; the page of `tcpserver`). Its client is sent
+    /// the plan's banner, then the rules are opened for it and it is decided. If it is allowed, the plan's program is
+    /// started with the variables of that decision.
     ///
     /// # Errors
-    /// It is over: it was denied or given up, or its program could not be started.
+    /// It is over, and its place is given back. It was given up undecided, since the banner could not be sent, or the
+    /// rules not be opened or read, or they are damaged, or there was no memory; or it was denied; or it was allowed,
+    /// and its program could not be started.
+    #[tactic(auto, using(crate::proofs::Served::ends_given_up, crate::proofs::Served::ends_denied, crate::proofs::Served::ends_refused, crate::proofs::Served::with_banner, crate::proofs::Served::undecided))]
     fn begin(&self, admitted: Admitted<H>) -> Result<Alive<H>, Over>
-        ensures own { IfOk result (λ alive. alive.serial ≡ admitted.serial) }
+        ensures own { IfOk result (λ alive. alive.serial ≡ (guest_identity admitted.guest).serial) }
         ensures place { IfOk result (λ alive. place_of alive.running ≡ admitted.place) }
+        // the decided program, with the decided environment
         ensures child { IfOk result (λ alive. IsDecidedChild
             (IsFoundFor (H.Rules.gives self.now.context.rules.now) H.Handle.opened H.missing) H.File.honest H.File.sound
-            admitted.serial admitted.peer admitted.local self.now.context.plan.now
+            (guest_identity admitted.guest) self.now.context.plan.now
             (H.Job.program (job_of alive.running)) (H.Job.environment (job_of alive.running))) }
-        ensures over { IfErr result (λ over. over.serial ≡ admitted.serial) }
+        ensures over { IfErr result (λ over. over.serial ≡ (guest_identity admitted.guest).serial) }
         ensures reason { IfErr result (λ over. EndsFor
             (IsFoundFor (H.Rules.gives self.now.context.rules.now) H.Handle.opened H.missing) H.File.honest H.File.sound
-            admitted.serial admitted.peer admitted.local self.now.context.plan.now
-            (H.Starter.refuses self.now.starter.now admitted.connection) (over_decided over) (over_end over)) }
+            (guest_identity admitted.guest) self.now.context.plan.now
+            (RefusesGreeted H.Connection.contents self.now.context.plan.now.banner
+            H.Connection.refuses (guest_connection admitted.guest)) (over_decided over) (over_end over)) }
     {
         let Admitted {
-            serial,
+            guest,
             place,
-            peer,
-            local,
-            connection,
             made: _,
         } = admitted;
-        let mut client = Greeter {
-            starter: self.starter,
-            connection: &connection,
-        };
-        let served = self.serve_one(serial, place, &peer, &local, &connection, &mut client);
-        drop(connection);
-        drop(peer);
-        drop(local);
-        match served {
-            Ok((running, begun)) => {
-                drop(begun);
-                Ok(Alive { serial, running })
+        let (context, serial) = (&self.context, guest.identity.serial);
+        let greeted = match guest.greet(context.plan.banner()) {
+            Ok(greeted) => greeted,
+            Err(cut) => {
+                let over = context.cut_short(&cut, place);
+                drop(cut);
+                return Err(over);
             }
-            Err(over) => Err(over),
+        };
+        let judged = match context.decide(&greeted) {
+            Ok(judged) => judged,
+            Err(up) => {
+                let over = context.dropped(&greeted, place, up);
+                drop(greeted);
+                return Err(over);
+            }
+        };
+        match judged.verdict {
+            Verdict::Deny => {
+                let Judged {
+                    noted,
+                    verdict: _,
+                    environment,
+                } = judged;
+                drop(environment);
+                let over = context.denied(noted, serial, place);
+                drop(greeted);
+                Err(over)
+            }
+            Verdict::Allow => {
+                let (alive, begun) = self.run(greeted, place, judged)?;
+                drop(begun);
+                Ok(alive)
+            }
         }
     }
 
@@ -131,10 +156,7 @@ where
             (over_end result) alive.serial }
     {
         let Alive { serial, running } = alive;
-        let ended = wait_in_rounds(running);
-        let is_retired = ended.is_err();
-        let answer = self.context.ended(serial, ended);
-        Over::of(serial, is_retired, None, answer)
+        self.context.ended(serial, wait_in_rounds(running))
     }
 
     fn is_retired(&self, over: &Over) -> bool {

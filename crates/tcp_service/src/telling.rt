@@ -1,19 +1,19 @@
-//! What is told of a connection. Each of its events is a turn of one caller of a site, and the log is told of it before
-//! the turn is over.
-ghost use Rattle.std.specs.Prelude.{◌≡◌, ◌≢◌, IfErr, IfOk, OnErr};
-ghost use Rattle.child_jobs.specs.declared.outcome.DropCause.TheVariants.{Denied, Directory};
+//! What is told of a connection. Each of its events is a turn of a site, and the log is told of it before the turn is
+//! over. What the site answered goes on with the connection, and in the end says that it is over.
+ghost use Rattle.std.specs.Prelude.{◌≡◌, ◌≢◌, IfErr, IfOk, None, OnErr, Some};
+ghost use Rattle.child_jobs.specs.declared.outcome.DropCause.TheVariants.{Banner, Denied, Directory};
 ghost use Rattle.server_events.specs.declared.event.Event.TheVariants as event;
 ghost use Rattle.server_yard.specs.Passes.{pass_file, pass_missing, pass_serial};
-ghost use Rattle.shared_site.specs.Receipts.{made_event};
-ghost use Rattle.tcp_service.specs.Lives.{IsAnswer, asked};
+ghost use Rattle.shared_site.specs.Turns.{IsAnswer};
+ghost use Rattle.tcp_service.specs.Lives.{IsEndOf, asked, retires};
 ghost use Rattle.tcp_service.specs.Openings.{Decides, opening_of};
 
-use crate::greeting::Greeted;
+use crate::guest::{CutShort, Greeted, Identity};
 use crate::host::{Rules, ServiceGround};
-use crate::reasons::{Reason, cause_of_absence, cause_of_damage, words_of};
+use crate::reasons::{GivenUp, Reason, cause_of_absence, cause_of_damage, words_of};
 use crate::server::Context;
-use child_jobs::{DropCause, Exit, Job, Local, NotStarted, Place, Running};
-use rule_lookup::{Decision, Peer};
+use child_jobs::{DropCause, Exit, Job, NotStarted, Place, Running};
+use rule_lookup::Decision;
 use server_log::{Cause, Log, Told};
 use server_yard::{Leaving, Pass};
 use shared_site::site::{Decided, Left, Opened, Retired, Started};
@@ -27,17 +27,6 @@ pub(crate) struct Noted {
     made: Made,
 }
 
-impl Noted {
-    ghost use Rattle.tcp_service.specs.Ends.{noted_event};
-
-    /// What it is evidence of.
-    pub fn made(&self) -> Snapshot<Made>
-        ensures { made_event result.value ≡ noted_event self.now }
-    {
-        Snapshot::of(&self.made)
-    }
-}
-
 /// What was noted of a connection whose program runs: its decision, and that it runs. Only `started` makes one.
 #[derive(Drop)]
 pub(crate) struct Begun {
@@ -45,19 +34,50 @@ pub(crate) struct Begun {
     last: Snapshot<Result<Made, OutOfTurn>>,
 }
 
-impl<G: ServiceGround> Context<'_, G> {
-    ghost use Rattle.tcp_service.specs.Ends.{begun_decided, begun_last, noted_event};
+/// That a connection is over: the last that was told of it is its end. Only its end makes one.
+#[derive(Drop)]
+pub struct Over {
+    serial: u64,
+    /// Whether its place is never free again.
+    pub(crate) is_retired: bool,
+    // the event that notes its decision, if it ended by that
+    decided: Option<Snapshot<Made>>,
+    // what its site answered last
+    last: Snapshot<Result<Made, OutOfTurn>>,
+    ghost end: { ∥ IsEndOf (asked last.value) serial ∥₁ },
+    ghost retired: { is_retired ≡ retires (asked last.value) },
+}
 
-    // A turn of the caller that makes the events of connections.
-    fn turn<T: Turn<G>>(&self, turn: T) -> T::Answer
-        requires may { T.may turn }
-        ensures answered { IsAnswer (T.answers turn) result }
+impl Over {
+    ghost use Rattle.tcp_service.specs.Ends.{over_end};
+
+    // Evidence that the connection with this serial number is over, by what its site answered last.
+    fn of(
+        serial: u64,
+        is_retired: bool,
+        decided: Option<Snapshot<Made>>,
+        last: Result<Made, OutOfTurn>,
+    ) -> Over
+        requires end { IsEndOf (asked last) serial }
+        requires retired { is_retired ≡ retires (asked last) }
+        ensures own { result.serial ≡ serial }
+        ensures decided { result.decided ≡ decided }
+        ensures end { over_end result ≡ asked last }
     {
-        let mut teller = self.teller.lock(self.rt);
-        self.site.turn(self.rt, &mut teller, turn)
+        Over {
+            serial,
+            is_retired,
+            decided,
+            last: Snapshot::of(&last),
+        }
     }
+}
 
-    // The same of an event of which the log is told.
+impl<G: ServiceGround> Context<'_, G> {
+    ghost use Rattle.tcp_service.specs.Ends.{begun_decided, begun_last, noted_event, over_decided, over_end};
+    ghost use Rattle.tcp_service.specs.Greetings.{cut_identity, cut_with, greeted_identity, greeted_with};
+
+    // Makes the event of a connection, of which the log is told.
     fn tell<T>(&self, turn: T, told: Told<'_>) -> Result<Made, OutOfTurn>
     where
         T: Turn<G, Answer = Result<Made, OutOfTurn>>,
@@ -65,32 +85,32 @@ impl<G: ServiceGround> Context<'_, G> {
         ensures answered { IsAnswer (T.answers turn) result }
     {
         let (rt, log) = (self.rt, self.log);
-        self.turn(Telling::<G, T> {
+        let telling = Telling::<G, T> {
             turn,
             told,
             rt,
             log,
-        })
+        };
+        self.site.turn(rt, telling)
     }
 
-    /// The connection with this serial number has found this file, or none, after its client was greeted.
+    /// A connection has found this file, or none, after its client was greeted.
     ///
     /// # Errors
     /// It may not open the rules now, which counts as a fault of the directory.
-    pub(crate) fn opened(
+    pub(crate) fn opened<X>(
         &self,
-        greeted: Greeted<'_>,
-        serial: u64,
+        greeted: &Greeted<'_, X>,
         file: Option<G::File>,
     ) -> Result<Pass<G::Places, G::File>, DropCause>
-        requires greeted { greeted.banner.now ≡ self.now.plan.now.banner }
-        ensures its { IfOk result (λ pass. pass_serial pass ≡ serial) }
+        requires greeted { greeted_with greeted.now ≡ self.now.plan.now.banner }
+        ensures its { IfOk result (λ pass. pass_serial pass ≡ (greeted_identity greeted.now).serial) }
         ensures missing { IfOk result (λ pass. pass_missing pass ≡ G.missing) }
         ensures file { IfOk result (λ pass. pass_file pass ≡ file) }
         ensures cause { IfErr result (λ why. why ≡ Directory) }
     {
-        drop(greeted);
-        match self.turn(Opened::<G> { serial, file }) {
+        let serial = greeted.identity.serial;
+        match self.site.turn(self.rt, Opened::<G> { serial, file }) {
             Some((pass, made)) => {
                 drop(made);
                 Ok(pass)
@@ -107,18 +127,19 @@ impl<G: ServiceGround> Context<'_, G> {
     pub(crate) fn decided(
         &self,
         pass: Pass<G::Places, G::File>,
-        peer: &Peer,
-        local: &Local,
+        identity: &Identity,
         decision: Decision,
     ) -> Result<Noted, DropCause>
-        requires decides { Decides G.File.honest G.File.sound (opening_of G.File.bytes pass) peer.now decision }
+        requires decides { Decides
+            G.File.honest G.File.sound (opening_of G.File.bytes pass) identity.now.peer decision }
         ensures noted { IfOk result (λ noted. noted_event noted ≡ event.Decided (pass_serial pass) decision) }
         ensures cause { IfErr result (λ why. why ≡ Directory) }
     {
+        let peer = &identity.peer;
         let told = Told::Decided {
             serial: pass.serial(),
             verdict: decision.verdict,
-            local,
+            local: &identity.local,
             peer,
             file: cause_of_absence(self.rules.path(), &decision),
         };
@@ -162,10 +183,12 @@ impl<G: ServiceGround> Context<'_, G> {
         serial: u64,
         place: Place<G::Places>,
         refusal: NotStarted,
-    ) -> Result<Made, OutOfTurn>
-        ensures asked { asked result ≡ event.StartFailed serial refusal.fault }
+    ) -> Over
+        ensures own { result.serial ≡ serial }
+        ensures decided { over_decided result ≡ Some (noted_event noted) }
+        ensures end { over_end result ≡ event.StartFailed serial refusal.fault }
     {
-        let Noted { made: _ } = noted;
+        let Noted { made } = noted;
         let NotStarted { fault, error } = refusal;
         let why = words_of(self.alloc, error);
         let program = self.plan.program().path().as_bytes();
@@ -182,34 +205,49 @@ impl<G: ServiceGround> Context<'_, G> {
         };
         let answer = self.tell(turn, told);
         drop(why);
-        answer
+        Over::of(serial, false, Some(Snapshot::of(&made)), answer)
     }
 
-    /// It was denied. Its place is given back.
-    pub(crate) fn denied(
-        &self,
-        noted: Noted,
-        serial: u64,
-        place: Place<G::Places>,
-    ) -> Result<Made, OutOfTurn>
-        ensures asked { asked result ≡ event.Dropped serial Denied }
+    /// A connection was denied. Its place is given back.
+    pub(crate) fn denied(&self, noted: Noted, serial: u64, place: Place<G::Places>) -> Over
+        ensures own { result.serial ≡ serial }
+        ensures decided { over_decided result ≡ Some (noted_event noted) }
+        ensures end { over_end result ≡ event.Dropped serial Denied }
     {
-        let Noted { made: _ } = noted;
-        self.leave(serial, place, DropCause::Denied, None)
+        let Noted { made } = noted;
+        let answer = self.leave(serial, place, DropCause::Denied, None);
+        Over::of(serial, false, Some(Snapshot::of(&made)), answer)
     }
 
-    /// It is given up undecided, for this cause. Its place is given back.
-    pub(crate) fn dropped(
-        &self,
-        serial: u64,
-        place: Place<G::Places>,
-        cause: DropCause,
-        reason: Option<Reason>,
-    ) -> Result<Made, OutOfTurn>
-        requires undecided { cause ≢ Denied }
-        ensures asked { asked result ≡ event.Dropped serial cause }
+    /// A connection is given up, since its client could not be sent the whole banner. Its place is given back.
+    pub(crate) fn cut_short<X>(&self, cut: &CutShort<'_, X>, place: Place<G::Places>) -> Over
+        requires banner { cut_with cut.now ≡ self.now.plan.now.banner }
+        ensures own { result.serial ≡ (cut_identity cut.now).serial }
+        ensures decided { over_decided result ≡ None }
+        ensures end { over_end result ≡ event.Dropped (cut_identity cut.now).serial Banner }
     {
-        self.leave(serial, place, cause, reason)
+        let serial = cut.identity.serial;
+        let answer = self.leave(serial, place, DropCause::Banner, None);
+        Over::of(serial, false, None, answer)
+    }
+
+    /// A connection is given up undecided, after its client was greeted. Its place is given back.
+    pub(crate) fn dropped<X>(
+        &self,
+        greeted: &Greeted<'_, X>,
+        place: Place<G::Places>,
+        up: GivenUp,
+    ) -> Over
+        requires greeted { greeted_with greeted.now ≡ self.now.plan.now.banner }
+        requires undecided { (up.cause ≢ Denied) × (up.cause ≢ Banner) }
+        ensures own { result.serial ≡ (greeted_identity greeted.now).serial }
+        ensures decided { over_decided result ≡ None }
+        ensures end { over_end result ≡ event.Dropped (greeted_identity greeted.now).serial up.cause }
+    {
+        let GivenUp { cause, reason } = up;
+        let serial = greeted.identity.serial;
+        let answer = self.leave(serial, place, cause, reason);
+        Over::of(serial, false, None, answer)
     }
 
     // It leaves before its program was started, for this cause.
@@ -248,9 +286,10 @@ impl<G: ServiceGround> Context<'_, G> {
         &self,
         serial: u64,
         ended: Result<(Place<G::Places>, Exit), Running<G::Places, C>>,
-    ) -> Result<Made, OutOfTurn>
-        ensures ended { IfOk ended (λ end. asked result ≡ event.Ended serial end.1.status) }
-        ensures retired { OnErr ended (asked result ≡ event.Retired serial) }
+    ) -> Over
+        ensures own { result.serial ≡ serial }
+        ensures ended { IfOk ended (λ end. over_end result ≡ event.Ended serial end.1.status) }
+        ensures retired { OnErr ended (over_end result ≡ event.Retired serial) }
     {
         match ended {
             Ok((place, exit)) => {
@@ -265,15 +304,18 @@ impl<G: ServiceGround> Context<'_, G> {
                     status,
                     signal,
                 };
-                self.tell(turn, told)
+                let answer = self.tell(turn, told);
+                Over::of(serial, false, None, answer)
             }
             Err(running) => {
                 let turn = Retired::<G, C> { serial, running };
-                self.tell(turn, Told::Retired { serial })
+                let answer = self.tell(turn, Told::Retired { serial });
+                Over::of(serial, true, None, answer)
             }
         }
     }
 }
+
 // A turn of a connection that was let in, and what the log is told of its event before the turn is over. So its lines
 // stand in the order of events.
 struct Telling<'a, G: ServiceGround, T> {

@@ -8,17 +8,21 @@ use Rattle.tcp_streams.specs.Taps.{Records}
 use Rattle.tcp_streams.specs.Wrappers.{IsNewChain}
 use Rattle.tcp_streams.specs.declared.passing.Passage.{Passage}
 use Rattle.tcp_streams.specs.declared.passing.Passing.{Passing}
+use Rattle.tcp_streams.specs.declared.programs.Connection.{Connection}
 use Rattle.tcp_streams.specs.declared.programs.ProgramStarter.{ProgramStarter}
 use Rattle.tcp_streams.specs.declared.programs.ServiceJob.{ServiceJob}
-use Rattle.tcp_streams.specs.declared.sockets.Connection.{Connection}
 use Rattle.tcp_streams.specs.declared.sockets.SocketAcceptor.{SocketAcceptor}
 
--- the socket that an acceptor's connections come from, and whether what is written to them is sent at once
-abbrev pub accepts_from : {R T : Type 0} → SocketAcceptor R T → T
+-- the socket that an acceptor's connections come from, whether what is written to them is sent at once, and what starts
+-- their programs
+abbrev pub accepts_from : {R T E : Type 0} → SocketAcceptor R T E → T
 accepts_from acceptor = acceptor.listener
 
-abbrev pub accepts_at_once : {R T : Type 0} → SocketAcceptor R T → Bool
+abbrev pub accepts_at_once : {R T E : Type 0} → SocketAcceptor R T E → Bool
 accepts_at_once acceptor = acceptor.sends_at_once
+
+abbrev pub acceptor_starter : {R T E : Type 0} → SocketAcceptor R T E → ProgramStarter R E
+acceptor_starter acceptor = acceptor.starter.now
 
 -- how the bytes of the connections pass whose programs it starts
 abbrev pub passing_of : {R E : Type 0} → ProgramStarter R E → Passing
@@ -37,9 +41,12 @@ abbrev pub pumps : Mode → Bool
 pumps HandedOver = false
 pumps Pumped = true
 
--- the port of a connection's client
-abbrev pub port_of : {R : Type 0} → Connection R → ℕ
+-- the port of a connection's client, and what starts its program
+abbrev pub port_of : {R E : Type 0} → Connection R E → ℕ
 port_of connection = connection.port
+
+abbrev pub connection_starter : {R E : Type 0} → Connection R E → ProgramStarter R E
+connection_starter connection = connection.starter.now
 
 -- the connection of a job, if it is pumped
 abbrev pub passage_of : {R E : Type 0} → ServiceJob R E → Option (Passage R E)

@@ -1,21 +1,24 @@
 //! Programs of the system, each with the connection that it serves.
 ghost use Rattle.std.specs.Prelude.{◌≡◌, ⊤, IfErr, IfOk, IfSome, is_some, true};
-ghost use Rattle.tcp_streams.specs.Asked.{IsNewPassage, passage_of, passing_of, port_of, pumps};
+ghost use Rattle.tcp_streams.specs.Asked.{IsNewPassage, connection_starter, passage_of, passing_of, port_of, pumps};
 
 use crate::passing::{Passage, Passing};
-use crate::sockets::{Connection, TOO_MANY_FILES_AT_ALL};
 use child_jobs::{Environment, Exit, Job, Launcher, NotStarted, Program, StartFault, WaitFault};
 use server_words::Mode;
 use std::alloc::Global;
 use std::fs::Files;
 use std::io::Write;
+use std::net::TcpStream;
 use std::os::fd::OwnedFd;
 use std::process::Processes;
 use std::sync::Wait;
 use std::time::Clock;
 use std::{io, thread};
 use stream_tools::{OsJob, OsLauncher, SearchPath};
-use tcp_connections::{Reserve, Starter, pause_after};
+use tcp_connections::{Reserve, pause_after};
+
+/// `ENFILE`: the whole system has too many open files.
+pub(crate) const TOO_MANY_FILES_AT_ALL: i32 = 23;
 
 /// So often a start waits and tries again, for about a minute, if the system has no process or no descriptor for a
 /// program.
@@ -23,9 +26,6 @@ const WAITS: u32 = 66;
 
 /// Starts programs as `OsLauncher` does. If the system has no process for one, the one in reserve is given back. Then,
 /// and if it has no descriptor for one now, the start waits for some time for the end of another program.
-///
-/// A connection that is handed over is the standard input and output of its program, one socket twice, and this process
-/// holds it no more. Else both are pipes, and the job has the connection: `wait` passes its bytes.
 #[derive(Drop)]
 pub struct ProgramStarter<'a, R, E> {
     rt: &'a R,
@@ -111,51 +111,81 @@ impl<'a, R: Processes + Files + Wait + Clock, E: Write + Copy + Drop> ProgramSta
     }
 }
 
-impl<'a, R, E> Starter<Connection<'a, R>> for ProgramStarter<'a, R, E>
+/// A connection that was accepted: what is written to it goes to its client, until its program is started. It is closed
+/// once it is let go.
+#[derive(Drop)]
+pub struct Connection<'a, R, E> {
+    pub(crate) socket: TcpStream,
+    /// The client's port.
+    pub(crate) port: u16,
+    /// What starts its program.
+    pub(crate) starter: &'a ProgramStarter<'a, R, E>,
+}
+
+impl<R, E> Write for Connection<'_, R, E> {
+    fn write(&mut self, buf: &[u8]) -> io::Result<usize> {
+        self.socket.write(buf)
+    }
+
+    fn flush(&mut self) -> io::Result<()> {
+        Ok(())
+    }
+}
+
+impl<'a, R, E> Launcher for Connection<'a, R, E>
 where
     R: Processes + Files + Wait + Clock,
     E: Write + Copy + Drop,
 {
     type Job = ServiceJob<'a, R, E>;
 
-    ghost may = { λ _ _ _ _. true };
+    ghost may = { λ _ _ _. true };
 
-    ghost refuses = { λ _ _ _ _ _. ⊤ };
+    ghost refuses = { λ _ _ _ _. ⊤ };
 
-    fn send(&self, connection: &Connection<'a, R>, bytes: &[u8]) -> io::Result<usize> {
-        connection.send(bytes)
-    }
-
-    /// As of the trait.
+    /// As of the trait. A connection that is handed over is the standard input and output of its program, one socket
+    /// twice, and this process holds it no more. Else both are pipes, and the job has the connection: `wait` passes its
+    /// bytes.
     ///
     /// # Errors
-    /// Also `Other` if the connection's socket was taken before. If no program is started, the connection is closed.
-    fn start_for(
-        &self,
+    /// Those of the trait. The connection is closed.
+    fn start(
+        self,
         alloc: Global,
-        connection: &Connection<'a, R>,
         program: &Program,
         environment: &Environment,
     ) -> Result<ServiceJob<'a, R, E>, NotStarted>
         ensures refused { IfErr result (λ _. ⊤) }
         ensures program { IfOk result (λ job. ⟦<OsJob as Job>⟧.program job.job ≡ program.now) }
         ensures environment { IfOk result (λ job. ⟦<OsJob as Job>⟧.environment job.job ≡ environment.now) }
-        ensures mode { IfOk result (λ job. is_some (passage_of job) ≡ pumps (passing_of self.now).mode) }
+        ensures mode { IfOk result (λ job.
+            is_some (passage_of job) ≡ pumps (passing_of (connection_starter self.entry)).mode) }
         ensures passage { IfOk result (λ job.
-            IfSome (passage_of job) (IsNewPassage (passing_of self.now) (port_of connection.now))) }
+            IfSome (passage_of job) (IsNewPassage (passing_of (connection_starter self.entry)) (port_of self.entry))) }
     {
-        let client = connection.take().ok_or(StartFault::Other)?;
-        let (rt, passing, port) = (self.rt, &self.passing, connection.port());
+        let Connection {
+            socket,
+            port,
+            starter,
+        } = self;
+        let passing = &starter.passing;
         match passing.mode {
             Mode::HandedOver => {
-                let stream = OwnedFd::from(client);
-                let job = self.start_in_time(alloc, program, environment, Some(&stream))?;
+                let stream = OwnedFd::from(socket);
+                let job = starter.start_in_time(alloc, program, environment, Some(&stream))?;
                 Ok(ServiceJob { job, passage: None })
             }
             Mode::Pumped => {
-                let passage = Passage::new(alloc, rt, passing, self.errors, port, client);
+                let passage = Passage::new(
+                    alloc,
+                    starter.rt,
+                    passing,
+                    starter.errors,
+                    port,
+                    socket,
+                );
                 let passage = Some(passage.ok().ok_or(StartFault::OutOfMemory)?);
-                let job = self.start_in_time(alloc, program, environment, None)?;
+                let job = starter.start_in_time(alloc, program, environment, None)?;
                 Ok(ServiceJob { job, passage })
             }
         }

@@ -1,73 +1,45 @@
-//! Connections of the system's sockets.
+//! What accepts connections from a listening socket.
 ghost use Rattle.std.specs.Prelude.{◌≡◌, IfOk};
-ghost use Rattle.std.specs.Io.{WritesAtMost};
-ghost use Rattle.tcp_streams.specs.Asked.{accepts_at_once, accepts_from, port_of};
+ghost use Rattle.std.specs.Net.Addr.{ipv4_octets};
+ghost use Rattle.std.specs.Net.Socket.{v4_ip, v4_port};
+ghost use Rattle.tcp_streams.specs.Asked.{acceptor_starter, accepts_at_once, accepts_from, connection_starter, port_of};
 
+use crate::programs::{Connection, ProgramStarter, TOO_MANY_FILES_AT_ALL};
 use child_jobs::Local;
 use std::io;
-use std::io::{Error, ErrorKind, Write};
+use std::io::{Error, ErrorKind};
 use std::net::{OpenListener, SocketAddr, SocketAddrV4, TcpStream};
-use std::sync::{Mutex, Wait};
 use tcp_connections::{AcceptError, Accepted, Acceptor};
-
-/// `ENFILE`: the whole system has too many open files.
-pub(crate) const TOO_MANY_FILES_AT_ALL: i32 = 23;
 
 /// `ENOBUFS`: the system has no memory for a socket.
 const NO_BUFFERS: i32 = 105;
 
-/// A connection. Its socket is there until it is taken out for the connection's program. One that was not taken out is
-/// closed with this value.
-#[derive(Drop)]
-pub struct Connection<'a, R> {
-    rt: &'a R,
-    port: u16,
-    socket: Mutex<Option<TcpStream>>,
-}
-
-impl<'a, R: Wait> Connection<'a, R> {
-    /// The client's port.
-    pub(crate) fn port(&self) -> u16
-        ensures { result ≡ self.now.port }
-    {
-        self.port
-    }
-
-    /// Takes the socket out. It is there once.
-    pub(crate) fn take(&self) -> Option<TcpStream> {
-        self.socket.lock(self.rt).take()
-    }
-
-    /// Sends the client some of these bytes. It fails with `NotConnected` once the socket was taken out.
-    pub(crate) fn send(&self, bytes: &[u8]) -> io::Result<usize>
-        ensures bound { WritesAtMost result bytes.now }
-    {
-        match self.socket.lock(self.rt).as_ref() {
-            Some(mut stream) => stream.write(bytes),
-            None => Err(Error::from(ErrorKind::NotConnected)),
-        }
-    }
-}
-
 /// The connections that a listening socket accepts.
 #[derive(Drop)]
-pub struct SocketAcceptor<'a, R, T> {
-    rt: &'a R,
+pub struct SocketAcceptor<'a, R, T, E> {
     listener: T,
     // whether what is written to its connections is sent at once (TCP_NODELAY)
     sends_at_once: bool,
+    // what starts their programs
+    starter: &'a ProgramStarter<'a, R, E>,
 }
 
-impl<'a, R: Wait, T: OpenListener<Stream = TcpStream>> SocketAcceptor<'a, R, T> {
-    /// Those of this listener. What is written to them is sent at once if that is asked for (`-D`).
-    pub fn new(rt: &'a R, listener: T, sends_at_once: bool) -> SocketAcceptor<'a, R, T>
+impl<'a, R, T: OpenListener<Stream = TcpStream>, E> SocketAcceptor<'a, R, T, E> {
+    /// Those of this listener, whose programs this starter starts. What is written to them is sent at once if that is
+    /// asked for (`-D`).
+    pub fn new(
+        listener: T,
+        sends_at_once: bool,
+        starter: &'a ProgramStarter<'a, R, E>,
+    ) -> SocketAcceptor<'a, R, T, E>
         ensures from { accepts_from result ≡ listener }
         ensures at_once { accepts_at_once result ≡ sends_at_once }
+        ensures starter { acceptor_starter result ≡ starter.now }
     {
         SocketAcceptor {
-            rt,
             listener,
             sends_at_once,
+            starter,
         }
     }
 
@@ -82,33 +54,50 @@ impl<'a, R: Wait, T: OpenListener<Stream = TcpStream>> SocketAcceptor<'a, R, T> 
     }
 }
 
-impl<'a, R, T> Acceptor for SocketAcceptor<'a, R, T>
+impl<'a, R, T, E> Acceptor for SocketAcceptor<'a, R, T, E>
 where
-    R: Wait + Sync,
+    R: Sync,
     T: OpenListener<Stream = TcpStream> + Drop,
+    E: Sync,
 {
-    type Came = Accepted<Connection<'a, R>>;
+    type Came = Accepted<Connection<'a, R, E>>;
 
-    fn accept(&self) -> Result<Accepted<Connection<'a, R>>, AcceptError>
+    fn accept(&self) -> Result<Accepted<Connection<'a, R, E>>, AcceptError>
         ensures port { IfOk result (λ accepted. port_of accepted.connection ≡ accepted.port) }
+        ensures starter { IfOk result (λ accepted. connection_starter accepted.connection ≡ acceptor_starter self.now) }
     {
-        let (local, stream, peer) = match self.next() {
+        let (local, socket, peer) = match self.next() {
             Ok(next) => next,
             Err(error) => return Err(error_of(&error)),
         };
         if self.sends_at_once {
-            let _ = stream.set_nodelay(true);
+            let _ = socket.set_nodelay(true);
         }
-        Ok(Accepted {
-            connection: Connection {
-                rt: self.rt,
-                port: peer.port(),
-                socket: Mutex::new(Some(stream)),
-            },
-            ip: peer.ip().octets(),
+        Ok(accepted(local, socket, peer, self.starter))
+    }
+}
+
+// A connection of this socket between two ends, the server's first.
+fn accepted<'a, R, E>(
+    local: SocketAddrV4,
+    socket: TcpStream,
+    peer: SocketAddrV4,
+    starter: &'a ProgramStarter<'a, R, E>,
+) -> Accepted<Connection<'a, R, E>>
+    ensures client { (result.ip ≡ ipv4_octets (v4_ip peer)) × (result.port ≡ v4_port peer) }
+    ensures end { (result.local.ip ≡ ipv4_octets (v4_ip local)) × (result.local.port ≡ v4_port local) }
+    ensures port { port_of result.connection ≡ v4_port peer }
+    ensures starter { connection_starter result.connection ≡ starter.now }
+{
+    Accepted {
+        connection: Connection {
+            socket,
             port: peer.port(),
-            local: Local::new(local.ip().octets(), local.port(), None),
-        })
+            starter,
+        },
+        ip: peer.ip().octets(),
+        port: peer.port(),
+        local: Local::new(local.ip().octets(), local.port(), None),
     }
 }
 

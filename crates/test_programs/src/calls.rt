@@ -14,13 +14,12 @@ use rules_install::Install;
 use server_events::Event;
 use server_yard::{AdmitFault, Leaving, Pass};
 use shared_site::site::{Admit, Decided, Left, Started};
-use shared_site::{Caller, Callers};
 use std::alloc::Global;
 use std::sync::Wait;
 use std::sync::ledger::Ledger;
 use std::thread;
 use std::time::{Clock, Duration};
-use whole_yard::{Assumptions, InstallBegin, InstallStep, OfConnection, Open};
+use whole_yard::{Assumptions, Caller, Callers, InstallBegin, InstallStep, OfConnection, Open};
 
 /// More steps than an installation of a short text takes.
 const STEPS: u64 = 64;

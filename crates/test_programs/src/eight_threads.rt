@@ -1,7 +1,7 @@
 //! Eight callers in threads of their own, who share four places.
 ghost use Rattle.std.specs.Prelude.{◌≡◌, false};
 ghost use Rattle.rule_lookup.specs.declared.decision.WhenMissing.TheVariants.{Deny};
-ghost use Rattle.shared_site.specs.Callers.{new_count};
+ghost use Rattle.whole_yard.specs.Callers.{new_count};
 
 use crate::calls::{At, Worker};
 use crate::receipts::Receipts;
@@ -13,7 +13,6 @@ use rule_lookup::{Peer, WhenMissing};
 use rules_install::whole::prepare;
 use rules_install::{FileNames, Install};
 use server_events::Report;
-use shared_site::{Caller, Callers, NewCallers};
 use std::alloc::{AllocError, Global};
 use std::marker::Brand;
 use std::sync::Wait;
@@ -21,7 +20,7 @@ use std::sync::ledger::{Blank, Share};
 use std::thread;
 use std::thread::Threads;
 use std::time::Clock;
-use whole_yard::{Assumptions, BackCallers};
+use whole_yard::{Assumptions, BackCallers, Caller, Callers, NewCallers};
 
 const CALLERS: u64 = 8;
 

@@ -2,7 +2,7 @@
 ghost use Rattle.std.specs.Prelude.{◌≡◌, false, IfSome, OnOk};
 ghost use Rattle.server_events.specs.JournalParts.{books_of_journal};
 ghost use Rattle.headline.specs.Worlds.{missing_by};
-ghost use Rattle.shared_site.specs.Callers.{new_count};
+ghost use Rattle.whole_yard.specs.Callers.{new_count};
 ghost use Rattle.whole_yard.specs.Kept.{rules_of};
 ghost use Rattle.whole_yard.specs.Closings.{IsWhole};
 
@@ -11,11 +11,12 @@ use dir_calls::Name;
 use memory_dirs::MemDir;
 use rule_lookup::WhenMissing;
 use server_events::{Event, Journal, Report, replay};
-use shared_site::{Callers, NewCallers, Receipt};
+use shared_site::Receipt;
 use std::alloc::{AllocError, Global};
 use std::sync::ledger::Blank;
 use whole_yard::{
-    Assumptions, BackCallers, ConnectionsOver, NotWhole, WholeSite, WholeYard, close_and_audit,
+    Assumptions, BackCallers, Callers, ConnectionsOver, NewCallers, NotWhole, WholeSite, WholeYard,
+    close_and_audit,
 };
 
 /// A site over a directory in memory.

@@ -8,7 +8,7 @@ use Rattle.server_parts.specs.Asked.{IsAskedPlan}
 use Rattle.server_parts.specs.Services.{AreNamesOf, IsSupplyIn}
 use Rattle.server_words.specs.Plans.{ServerPlan}
 use Rattle.tcp_service.specs.declared.server.Service.{Service}
-use Rattle.tcp_streams.specs.Asked.{IsAskedPassing, accepts_at_once, accepts_from}
+use Rattle.tcp_streams.specs.Asked.{IsAskedPassing, acceptor_starter, accepts_at_once, accepts_from, passing_of}
 use Rattle.tcp_streams.specs.declared.passing.Passing.{Passing}
 use Rattle.tcp_streams.specs.declared.sockets.SocketAcceptor.{SocketAcceptor}
 
@@ -31,12 +31,13 @@ pub record IsAskedLog {W : Type 0} (words : ServerPlan) (speaker : Voice) (log :
   pub voice : voice_of log ≡ speaker
   pub limit : limit_of log ≡ words.limits.connections
 
--- connections come from a socket that listens at the address and the port of the words, and what is written to them is
--- sent at once by `-D`
-pub record AcceptsAsAsked {R T : Type 0} (listens : T → List ℕ → ℕ → Type 0) (words : ServerPlan)
-    (acceptor : SocketAcceptor R T) : Type 0 where
+-- connections come from a socket that listens at the address and the port of the words, what is written to them is sent
+-- at once by `-D`, and their bytes pass as the words say
+pub record AcceptsAsAsked {R T E : Type 0} (listens : T → List ℕ → ℕ → Type 0) (words : ServerPlan)
+    (acceptor : SocketAcceptor R T E) : Type 0 where
   pub from : listens (accepts_from acceptor) words.service.address words.service.port
   pub at_once : accepts_at_once acceptor ≡ words.no_delay
+  pub passes : IsAskedPassing words (passing_of (acceptor_starter acceptor))
 
 -- as many connections are let in at once as `-c` says, and as many from one address as `-m` says
 abbrev pub AreAskedLimits : ServerPlan → (limit per_address : ℕ) → Type 0

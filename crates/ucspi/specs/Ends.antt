@@ -1,5 +1,5 @@
 -- How the tool ends, by how its server did.
-use Rattle.std.specs.Prelude.{ℤ, not, nat_le, ◌==◌, length, Option, None, Result, Ok, Err, if◌then◌else◌}
+use Rattle.std.specs.Prelude.{ℕ, ℤ, not, nat_le, ◌&&◌, ◌==◌, length, Option, None, Result, Ok, Err, if◌then◌else◌}
 use Rattle.server_events.specs.Journals.{Books}
 use Rattle.server_events.specs.ServerState.{ServerState}
 use Rattle.server_parts.specs.declared.fault.ServerFailure.{ServerFailure}
@@ -9,10 +9,11 @@ use Rattle.tcp_connections.specs.declared.serving.ServeEnd.{ServeEnd}
 use Rattle.tcp_connections.specs.declared.serving.ServeEnd.TheVariants.{AcceptFaults, Count, Exhausted, Spent}
 use Rattle.ucspi.specs.declared.ends.Last.{Last}
 
--- what a yard with these books and this server was like at the end
-abbrev pub last_of : Books → ServerState → Last
-last_of books server = record {
-  has_lost = not (books.report.retired == length server.connections);
+-- what a yard with these books and this server was like at the end, where so many were let in: it has lost a connection
+-- if one is alive that is not retired, or if another number had their admission
+abbrev pub last_of : (let_in : ℕ) → Books → ServerState → Last
+last_of let_in books server = record {
+  has_lost = not ((books.report.retired == length server.connections) && (books.report.admitted == let_in));
   is_retired = nat_le server.limit books.report.retired;
 }
 

@@ -1,5 +1,5 @@
 //! How the tool ends, by how its server did.
-ghost use Rattle.std.specs.Prelude.{◌≡◌, true, Ok, Err, IfErr, OnOk};
+ghost use Rattle.std.specs.Prelude.{◌≡◌, Ok, Err, IfErr, OnOk};
 ghost use Rattle.ucspi.specs.Ends.{told_of};
 ghost use Rattle.server_yard.specs.Yards.{HasRun};
 
@@ -16,7 +16,8 @@ pub struct Finished(());
 /// What a yard was like at the end of its server.
 #[derive(Clone, Copy)]
 pub(crate) struct Last {
-    /// Whether a connection is alive still that is not retired, though no thread has it.
+    /// Whether a connection is alive still that is not retired, though no thread has it; or another number of
+    /// connections had their admission than were let in.
     pub has_lost: bool,
     /// Whether all places are retired.
     pub is_retired: bool,
@@ -25,7 +26,6 @@ pub(crate) struct Last {
 // How the tool ends, by how its server did, what its yard was then, and the system's last fault of accepting. The
 // events of its site were a run.
 pub(crate) fn end_of<H: Host>(served: Closed<H>) -> Result<Finished, ServerFailure>
-    requires new { H.Callers.before ≡ 0 }
     ensures ran { HasRun served.yard }
     ensures finished { OnOk result (told_of served.last served.end served.faults.last ≡ Ok tt) }
     ensures closed { IfErr result (λ failure. told_of served.last served.end served.faults.last ≡ Err failure) }

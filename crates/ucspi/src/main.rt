@@ -12,8 +12,8 @@
 //! printed and exited with, is read here and tested with real clients. `run_tcpserver` refuses words with a fault, and
 //! ends well only by a `Finished`.
 //!
-//! At the end of a server both callers are back. `close` compares the connections alive with the retired ones, and
-//! `end_of` reports a difference as `lost connection`. The events of its site are a run, of which
+//! At the end of a server `close` compares the connections alive with the retired ones, and the admissions with how
+//! many were let in; `end_of` reports a difference as `lost connection`. The events of its site are a run, of which
 //! `whole_yard::laws::whole_run` speaks.
 #![tactic(auto)]
 

@@ -1,5 +1,7 @@
 //! What the tool has of the system, and what its server stands on.
-ghost use Rattle.std.specs.Prelude.{◌≡◌, ⊤, ℕ, List, IfOk, IfErr};
+ghost use Rattle.std.specs.Prelude.{◌≡◌, ⊤, ℕ, List, None, Option, IfOk, IfErr};
+ghost use Rattle.rule_lookup.specs.declared.decision.WhenMissing.{WhenMissing};
+ghost use Rattle.rule_lookup.specs.declared.decision.WhenMissing.TheVariants.{Allow};
 ghost use Rattle.server_parts.specs.declared.fault.ServerFault.TheVariants.{CannotListen};
 
 use crate::rules::{FolderHandle, FolderRules};
@@ -7,10 +9,10 @@ use byte_streams::Patient;
 use dir_disk::{NoWait, SystemDisk};
 use server_parts::opening::listen;
 use server_parts::{RulesOnDisk, ServerFailure};
-use shared_site::{Callers, Ground};
+use shared_site::Ground;
 use std::fs::{File, Files};
 use std::io::{Read, Write};
-use std::marker::PhantomData;
+use std::marker::{Brand, PhantomData};
 use std::net::{Net, OpenListener, TcpStream};
 use std::process::{ChildStdin, OpenProcess, Processes};
 use std::rt::Env;
@@ -19,7 +21,7 @@ use std::sync::{Mutex, Wait};
 use std::thread::Threads;
 use std::time::Clock;
 use tcp_service::{Host, ServiceGround};
-use tcp_streams::{Connection, ProgramStarter, ServiceJob};
+use tcp_streams::{Connection, ServiceJob};
 
 /// What the tool has of the system. It is a name for these types together, and has no values.
 pub(crate) trait System {
@@ -110,22 +112,34 @@ where
     }
 }
 
-/// What a server stands on, over these ledgers of places and of callers.
-pub(crate) struct OnSystem<'a, P: System, L, N>(PhantomData<(&'a P::Runtime, L, N)>);
+/// The ledger of the places of a server's connections. It also says how many the server is to let in, if there is such
+/// a number, and what it decides where no rules file stands.
+pub(crate) trait Places: Ledger {
+    /// How many it is to let in.
+    ghost admissions: { Option ℕ };
 
-impl<'a, P: System, L: Ledger + Send + Sync, N: Callers + Send + Sync> Ground
-    for OnSystem<'a, P, L, N> {
+    /// What it decides without a rules file.
+    ghost missing: { WhenMissing };
+}
+
+impl Places for Brand {
+    ghost admissions = { None };
+
+    ghost missing = { Allow };
+}
+
+/// What a server stands on, over this ledger.
+pub(crate) struct OnSystem<'a, P: System, L>(PhantomData<(&'a P::Runtime, &'a P::Errors, L)>);
+
+impl<'a, P: System, L: Places + Send + Sync> Ground for OnSystem<'a, P, L> {
     type Places = L;
-
-    type Callers = N;
 
     type File = RulesOnDisk;
 
-    ghost missing = { N.missing };
+    ghost missing = { L.missing };
 }
 
-impl<'a, P: System, L: Ledger + Send + Sync, N: Callers + Send + Sync> ServiceGround
-    for OnSystem<'a, P, L, N> {
+impl<'a, P: System, L: Places + Send + Sync> ServiceGround for OnSystem<'a, P, L> {
     type Runtime = P::Runtime;
 
     type Handle = FolderHandle<'a, SystemDisk<&'a P::Runtime, NoWait>>;
@@ -135,11 +149,10 @@ impl<'a, P: System, L: Ledger + Send + Sync, N: Callers + Send + Sync> ServiceGr
     type Lines = P::Lines;
 }
 
-impl<'a, P: System, L: Ledger + Send + Sync, N: Callers + Send + Sync> Host
-    for OnSystem<'a, P, L, N> {
-    type Connection = Connection<'a, P::Runtime>;
-
-    type Starter = ProgramStarter<'a, P::Runtime, P::Errors>;
+impl<'a, P: System, L: Places + Send + Sync> Host for OnSystem<'a, P, L> {
+    type Connection = Connection<'a, P::Runtime, P::Errors>;
 
     type Job = ServiceJob<'a, P::Runtime, P::Errors>;
+
+    ghost admissions = { L.admissions };
 }

@@ -14,8 +14,8 @@ ghost use Rattle.tcp_streams.specs.Asked.{IsAskedPassing, passing_of};
 
 use crate::ends::Finished;
 use crate::rules::FolderRules;
-use crate::serving::{CALLERS, serve};
-use crate::system::{OnSystem, System, SystemOf};
+use crate::serving::serve;
+use crate::system::{OnSystem, Places, System, SystemOf};
 use byte_streams::Patient;
 use child_jobs::Plan;
 use fault_hints::{Voice, append_help};
@@ -28,7 +28,6 @@ use server_parts::signals::forgets_programs;
 use server_parts::{RulesPath, ServerFailure, ServerFault, TcpserverFault};
 use server_words::{Level, ServerWords, read_server_words};
 use server_yard::Yard;
-use shared_site::Callers;
 use std::alloc::Global;
 use std::fs::{File, Files};
 use std::io::Write;
@@ -187,16 +186,22 @@ fn open_and_run<'a, P: System + Send + Sync>(
     requires asked { AreAsked words.now server.now.plan server.now.service server.now.passing }
 {
     let rules = RulesPath::by_words(rt.alloc(), rt, words)?;
-    let acceptor = open_socket::<P>(rt, &server.log, words)?;
     let (search, reserve) = (&server.search, &server.service.reserve);
     let starter = ProgramStarter::new(rt, search, reserve, server.passing, errors);
-    let (places, parts) = (Blank::new(words.limits().connections), Blank::new(CALLERS));
-    let run = run_site::<Brand, Brand, P>(
-        rt, server, acceptor, &rules, &starter, words, places, parts,
-    );
+    let acceptor = open_socket::<P>(rt, &server.log, words, &starter)?;
+    let places = Blank::new(words.limits().connections);
+    let run = run_site::<Brand, P>(rt, server, acceptor, &rules, words, places);
     drop(rules);
     run
 }
+
+// What accepts the connections of a system.
+type AcceptorOn<'a, P> = SocketAcceptor<
+    'a,
+    <P as System>::Runtime,
+    <P as System>::Listener,
+    <P as System>::Errors,
+>;
 
 // The connections of a socket that listens where the words say, which a person is told. Its port is printed where the
 // words ask for that.
@@ -204,7 +209,9 @@ fn open_socket<'a, P: System>(
     rt: &'a P::Runtime,
     log: &Mutex<Log<P::Lines>>,
     words: &ServerWords<'_>,
-) -> Result<SocketAcceptor<'a, P::Runtime, P::Listener>, ServerFailure>
+    starter: &'a ProgramStarter<'a, P::Runtime, P::Errors>,
+) -> Result<AcceptorOn<'a, P>, ServerFailure>
+    requires starts { IsAskedPassing words.now (passing_of starter.now) }
     ensures asked { IfOk result (AcceptsAsAsked P.listens words.now) }
     ensures refused { IfErr result (λ failure. (failure.fault ≡ CannotListen) ⊎ (failure.fault ≡ WriteFault)) }
 {
@@ -217,7 +224,7 @@ fn open_socket<'a, P: System>(
         let _ = log.lock(rt).listening(end.ip().octets(), end.port());
     }
     let at_once = words.sends_at_once();
-    Ok(SocketAcceptor::new(rt, listener, at_once))
+    Ok(SocketAcceptor::new(listener, at_once, starter))
 }
 
 // Tells a person where rules are by names that clients don't have.
@@ -235,38 +242,32 @@ fn tell_names<R: Files<File = File> + Wait, E: Write + Drop>(
 }
 
 // The server over a yard of its own, which serves by what was made of the words.
-fn run_site<'a, L: Ledger + Send + Sync, N: Callers + Send + Sync, P: System + Send + Sync>(
+fn run_site<'a, L: Places + Send + Sync, P: System + Send + Sync>(
     rt: &'a P::Runtime,
     server: &'a ServerParts<'_, P::Lines>,
-    acceptor: SocketAcceptor<'a, P::Runtime, P::Listener>,
+    acceptor: AcceptorOn<'a, P>,
     rules: &'a RulesPath<'a, P::Runtime>,
-    starter: &'a ProgramStarter<'a, P::Runtime, P::Errors>,
     words: &'a ServerWords<'_>,
     places: Blank,
-    parts: Blank,
 ) -> Result<Finished, ServerFailure>
     requires places { (places.name ≡ L.name) × (places.parts ≡ L.parts)
         × (places.parts ≡ words.now.limits.connections) }
-    requires parts { (parts.name ≡ N.name) × (parts.parts ≡ N.parts) × (parts.parts ≡ CALLERS) }
-    requires callers { (N.before ≡ 0) × (N.admissions ≡ server.now.service.limits.count) }
-    requires missing { N.missing ≡ rules_missing rules.now }
+    requires count { L.admissions ≡ server.now.service.limits.count }
+    requires missing { L.missing ≡ rules_missing rules.now }
     requires asked { AreAsked words.now server.now.plan server.now.service server.now.passing }
     requires rules { AreRulesOf words.now rules.now }
     requires accepts { AcceptsAsAsked P.listens words.now acceptor }
-    requires starts { IsAskedPassing words.now (passing_of starter.now) }
 {
     let alloc = rt.alloc();
     tell_names(rt, alloc, &server.log, rules, words);
     let yard = yard_of::<L, P::Runtime>(alloc, rules, words, places)?;
     let rules = FolderRules(rules);
-    serve::<OnSystem<'a, P, L, N>, SocketAcceptor<'a, P::Runtime, P::Listener>>(
+    serve::<OnSystem<'a, P, L>, AcceptorOn<'a, P>>(
         rt,
         alloc,
         acceptor,
         yard,
-        parts,
         &rules,
-        starter,
         &server.plan,
         &server.service,
         &server.log,

@@ -10,7 +10,8 @@ use Rattle.server_yard.specs.Rolls.{NotesSome, Roll}
 use Rattle.whole_yard.specs.Stepping.{event_of_step, step_event}
 use Rattle.whole_yard.specs.WholeYards.{IsSameBesides, IsSameButDirectory, MayBegin, kept_under, last_begun, name_of, whole_roll, whole_rules, whole_state}
 use Rattle.whole_yard.specs.declared.yard.WholeYard.{WholeYard}
-use Rattle.shared_site.specs.Receipts.{CountsAtMostOne, receipt_after, receipt_at}
+use Rattle.shared_site.specs.Receipts.{receipt_after, receipt_at}
+use Rattle.whole_yard.specs.Callers.{CountsAtMostOne}
 use Rattle.shared_site.specs.Turns.{IsLastOf, spoken_by}
 use Rattle.whole_yard.proofs.Counts.{one_counted, quiet_counted}
 use Rattle.shared_site.proofs.Making.{last_of}

@@ -7,12 +7,13 @@ ghost use Rattle.whole_yard.specs.declared.closing.NotWhole.TheVariants.{Missing
 
 use crate::assumptions::Assumptions;
 use crate::audit::{Mismatch, audit};
+use crate::caller::Callers;
 use crate::laws::whole;
 use crate::site::WholeSite;
 use crate::yard::WholeYard;
 use dir_calls::Dir;
 use server_yard::Yard;
-use shared_site::{Callers, Receipt};
+use shared_site::Receipt;
 use std::sync::ledger::{Ledger, Share};
 
 /// The callers of a site that make no events any more, with the events of all of them.

@@ -5,13 +5,15 @@
 //! is a step of the headline's world over an honest directory (`step`, or `noted` with `laws::noted_leads`). `laws`
 //! ties the events of a server's yard to that world, over whatever directory other processes left.
 //!
-//! `WholeSite` is a whole yard under one lock. Its turns `Open`, `InstallBegin` and `InstallStep` are calls that a
-//! server leaves to handles and other processes, and `OfConnection` makes the turns of a server's site. `audit`,
-//! `audit_whole` and `close_and_audit` compare receipts with a history. `test_programs` runs the turns and an audit.
+//! `WholeSite` is a whole yard under one lock, with callers that have a share each of its events. Its turns `Open`,
+//! `InstallBegin` and `InstallStep` are calls that a server leaves to handles and other processes, and `OfConnection`
+//! makes the turns of a server's site. `audit`, `audit_whole` and `close_and_audit` compare receipts with a history.
+//! `test_programs` runs the turns and an audit.
 #![tactic(auto)]
 
 pub mod assumptions;
 pub mod audit;
+pub mod caller;
 pub mod closing;
 pub mod ground;
 pub mod install_laws;
@@ -25,6 +27,7 @@ mod stepping;
 pub mod yard;
 
 pub use assumptions::Assumptions;
+pub use caller::{Caller, Callers, NewCallers};
 pub use closing::{BackCallers, NotWhole, audit_whole, close_and_audit};
 pub use ground::ConnectionsOver;
 pub use install_turns::{InstallBegin, InstallStep};

@@ -1,15 +1,15 @@
 //! The whole site: a whole yard under one lock, for many threads. It makes the turns of connections, as a server's site
 //! does, and those by which a yard itself opens the rules or installs.
 ghost use Rattle.std.specs.Prelude.{◌≡◌, ◌+◌, ℕ};
-ghost use Rattle.shared_site.specs.Callers.{CountsForIts, new_count};
-ghost use Rattle.shared_site.specs.Receipts.{CountsAtMostOne};
+ghost use Rattle.whole_yard.specs.Callers.{CountsAtMostOne, CountsForIts, new_count};
 ghost use Rattle.whole_yard.specs.WholeYards.{whole_books};
 
 use crate::assumptions::Assumptions;
+use crate::caller::{Caller, Callers, NewCallers};
 use crate::ground::ConnectionsOver;
 use crate::yard::WholeYard;
 use dir_calls::Dir;
-use shared_site::{Caller, Callers, NewCallers, Turn};
+use shared_site::Turn;
 use std::sync::ledger::{Blank, Book, Share};
 use std::sync::{Mutex, Wait};
 

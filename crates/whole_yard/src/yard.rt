@@ -1,5 +1,5 @@
 //! The whole yard: the connections of a server and the installations beside them, over one directory.
-ghost use Rattle.std.specs.Prelude.{◌≡◌, ◌≢◌, ◌+◌, ◌∷◌, ◌↔◌, List, [], true, Err, None, Ok, Some, IsTrue, IfOk, IfErr, IfNone, IfSome, OnErr, Contains, is_some, option_map};
+ghost use Rattle.std.specs.Prelude.{◌≡◌, ◌≢◌, ◌+◌, ◌∷◌, ◌↔◌, [], true, Err, None, Ok, Some, IsTrue, IfOk, IfErr, IfNone, IfSome, OnErr, Contains, is_some, option_map};
 ghost use Rattle.child_jobs.specs.PlacesOut.{RefusesLimits};
 ghost use Rattle.dir_calls.specs.Moments.{CountsFault};
 ghost use Rattle.dir_calls.specs.declared.phase.Phase.TheVariants.{Done};

@@ -1,4 +1,4 @@
-use Rattle.std.specs.Prelude.{None, false}
+use Rattle.std.specs.Prelude.{false}
 use Rattle.rule_lookup.specs.declared.decision.WhenMissing.TheVariants.{Deny}
 use Rattle.test_programs.proofs.eight_threads.eight_callers_in_threads.Given as goal
 
@@ -12,4 +12,4 @@ abbrev pub ghosts-eight-N-Ledger : goal.ghosts-eight-N-Ledger
 ghosts-eight-N-Ledger g a = record { name = a.parts.name; parts = a.parts.parts }
 
 abbrev pub ghosts-eight-N-Callers : goal.ghosts-eight-N-Callers
-ghosts-eight-N-Callers g a = record { before = 0; admissions = None; missing = Deny }
+ghosts-eight-N-Callers g a = record { before = 0 }

@@ -1,5 +1,5 @@
 use Rattle.std.specs.Prelude.{◌≡◌, ◌+◌}
-use Rattle.shared_site.specs.Callers.{new_count}
+use Rattle.whole_yard.specs.Callers.{new_count}
 use Rattle.test_programs.proofs.eight_threads.take_eight.Given as goal
 
 abbrev pub invariant-loop : goal.invariant-loop

@@ -1,6 +1,6 @@
 -- As many events as the journal has more are in the caller's share and in the book.
 use Rattle.std.proofs.Common.{ℕ, rules, subst}
-use Rattle.shared_site.proofs.Counting.{share_counted, still_counted}
+use Rattle.whole_yard.proofs.Counts.{share_counted, still_counted}
 use Rattle.whole_yard.specs.WholeYards.{whole_books}
 use Rattle.whole_yard.proofs.site.Guarded.turn.Goals as goal
 

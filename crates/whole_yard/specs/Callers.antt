@@ -1,7 +1,8 @@
--- The callers of a site, their turns, and what these add to their shares.
-use Rattle.std.specs.Prelude.{◌≡◌, ◌+◌, ℕ}
-use Rattle.shared_site.specs.declared.caller.Caller.{Caller}
-use Rattle.shared_site.specs.declared.caller.NewCallers.{NewCallers}
+-- The callers of a whole site, their turns, and what these add to their shares.
+use Rattle.std.specs.Prelude.{◌≡◌, ◌+◌, ◌⊎◌, ℕ}
+use Rattle.server_events.specs.Journals.{one_more}
+use Rattle.whole_yard.specs.declared.caller.Caller.{Caller}
+use Rattle.whole_yard.specs.declared.caller.NewCallers.{NewCallers}
 
 -- its number
 abbrev pub caller_number : {N : Type 0} {l : _} → Caller N l → ℕ
@@ -14,6 +15,10 @@ caller_share caller = caller.share.amount
 -- how many callers nobody has yet
 abbrev pub new_count : {N : Type 0} {l : _} → NewCallers N l → ℕ
 new_count callers = callers.count
+
+-- a turn makes one event or none; a journal that only counts stays at its last number
+abbrev pub CountsAtMostOne : (old new : ℕ) → Type 0
+CountsAtMostOne old new = (new ≡ old) ⊎ (new ≡ one_more old)
 
 -- a turn answered its caller after this many events, and the caller's share has grown by as many events as the turn
 -- made

@@ -1,30 +1,17 @@
-//! The callers of a site, and the count of their events.
-ghost use Rattle.std.specs.Prelude.{◌≡◌, ◌+◌, ◌<◌, ℕ, None, Option};
-ghost use Rattle.rule_lookup.specs.declared.decision.WhenMissing.{WhenMissing};
-ghost use Rattle.rule_lookup.specs.declared.decision.WhenMissing.TheVariants.{Allow};
+//! The callers of a whole site, and the count of their events.
+ghost use Rattle.std.specs.Prelude.{◌≡◌, ◌+◌, ◌<◌, ℕ};
 
 use std::marker::Brand;
 use std::sync::ledger::{Ledger, Share};
 
-/// The ledger of a site's events, with a part for each caller. It also says how many events came before them, and how
-/// many connections they let in.
+/// The ledger of a site's events, with a part for each caller. It also says how many events came before them.
 pub trait Callers: Ledger {
     /// How many events the yard had when the site was made.
     ghost before: { ℕ };
-
-    /// How many connections the server of the site is to let in, if there is such a number. A site makes no use of it.
-    ghost admissions: { Option ℕ };
-
-    /// What the server of the site decides where no rules file stands. A site makes no use of it either.
-    ghost missing: { WhenMissing };
 }
 
 impl Callers for Brand {
     ghost before = { 0 };
-
-    ghost admissions = { None };
-
-    ghost missing = { Allow };
 }
 
 /// A caller: a number from 1, under which a journal notes its events, and its share in the count of a site's events.
@@ -38,7 +25,7 @@ pub struct Caller<N: Callers> {
 }
 
 impl<N: Callers> Caller<N> {
-    ghost use Rattle.shared_site.specs.Callers.{caller_number};
+    ghost use Rattle.whole_yard.specs.Callers.{caller_number};
 
     /// Its number.
     pub fn number(&self) -> u64
@@ -58,7 +45,7 @@ pub struct NewCallers<N: Callers> {
 }
 
 impl<N: Callers> NewCallers<N> {
-    ghost use Rattle.shared_site.specs.Callers.{caller_number, caller_share, new_count};
+    ghost use Rattle.whole_yard.specs.Callers.{caller_number, caller_share, new_count};
 
     /// So many callers, each with a part of this share, which is that of all.
     pub fn of(share: Share<N>, count: u64) -> NewCallers<N>
