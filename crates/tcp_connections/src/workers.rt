@@ -10,7 +10,7 @@ use crate::door::{Door, Faults};
 use crate::means::{Means, Permit};
 use crate::serving::{ServeEnd, Serving};
 use crate::supply::{MemoryLook, Reserve, Supply};
-use crate::threads::{GoingOn, connection_thread, has_processes, start_going_on, start_waiting};
+use crate::threads::{connection_thread, has_processes, start_waiting};
 use std::alloc::Global;
 use std::sync::{Mutex, Wait};
 use std::thread;
@@ -252,4 +252,42 @@ where
             drop(going_on);
         }
     }
+}
+
+// A connection whose program runs. To drop it is to go on with it to its end. So none is lost on the way from one
+// thread to another.
+struct GoingOn<'a, R: Wait, V: Serving> {
+    rt: &'a R,
+    server: &'a V,
+    means: &'a Means,
+    alive: V::Alive,
+    permit: Permit,
+}
+
+impl<R: Wait, V: Serving> Drop for GoingOn<'_, R, V> {
+    fn drop(self) {
+        let GoingOn {
+            rt,
+            server,
+            means,
+            alive,
+            permit,
+        } = self;
+        let over = server.finish(alive);
+        means.give_back(rt, permit, server.is_retired(&over));
+    }
+}
+
+// Starts a thread that goes on with a connection to its end. Without a thread this one does.
+fn start_going_on<'a: 's, 's, 'e, R, V>(scope: &Scope<'s, &'e ()>, going_on: GoingOn<'a, R, V>)
+where
+    R: Wait + Sync + 's,
+    V: Serving + Sync + 's,
+{
+    let _ = connection_thread().spawn_scoped(
+        scope,
+        move ||
+            requires { IsSync R.row × IsSync V.row × IsSend V.Alive.row }
+        { drop(going_on) },
+    );
 }

@@ -13,10 +13,9 @@ pub mod entrance;
 pub mod guest;
 pub mod host;
 mod judging;
-pub mod life;
 mod reasons;
 pub mod server;
-mod serving;
+pub mod serving;
 pub mod telling;
 
 pub use entrance::NoNumbers;

@@ -1,23 +1,44 @@
-//! How a server's connections are served: by the calls that `Workers` makes for each.
-ghost use Rattle.std.specs.Prelude.{◌≡◌, IfOk, IfErr};
+//! How a server's connections are served: by the calls that `Workers` makes for each. A connection that was let in, and
+//! one whose program runs, are values that can't be let go.
+ghost use Rattle.std.specs.Prelude.{◌≡◌, IfOk, IfErr, Some};
 ghost use Rattle.child_jobs.specs.Runs.{job_of, place_of};
+ghost use Rattle.rule_lookup.specs.declared.instr.Verdict.TheVariants.{Allow};
+ghost use Rattle.server_events.specs.declared.event.Event.TheVariants as event;
+ghost use Rattle.shared_site.specs.Receipts.{made_event};
 ghost use Rattle.tcp_service.specs.Accepting.{IsAccepted};
-ghost use Rattle.tcp_service.specs.Ends.{over_decided, over_end};
-ghost use Rattle.tcp_service.specs.Greetings.{RefusesGreeted, guest_connection, guest_identity};
+ghost use Rattle.tcp_service.specs.Ends.{begun_decided, begun_last, noted_event, over_decided, over_end};
+ghost use Rattle.tcp_service.specs.Greetings.{RefusesGreeted, greeted_connection, greeted_identity, guest_connection, guest_identity};
 ghost use Rattle.tcp_service.specs.Lives.{IsEndOfChild};
 ghost use Rattle.tcp_service.specs.Openings.{IsFoundFor};
-ghost use Rattle.tcp_service.specs.Servings.{EndsFor, IsDecidedChild};
+ghost use Rattle.tcp_service.specs.Servings.{EndsFor, FailsToStart, IsChild, IsDecided, IsDecidedChild, MayStart};
 
 use crate::entrance::{NoNumbers, admit, ends_of};
-use crate::guest::{Guest, Identity};
+use crate::guest::{Greeted, Guest, Identity};
 use crate::host::Host;
 use crate::judging::Judged;
-use crate::life::{Admitted, Alive};
 use crate::server::Server;
-use crate::telling::Over;
+use crate::telling::{Begun, Over};
+use child_jobs::{Place, Running};
 use rule_lookup::Verdict;
+use shared_site::Made;
 use std::snapshot::Snapshot;
 use tcp_connections::{Accepted, Entrance, Refused, Serving, wait_in_rounds};
+
+/// A connection that was let in and whose program was not started yet: the right to what comes next. It is made of what
+/// its admission gave, whose event was of its serial number and its client (`own`).
+pub struct Admitted<H: Host> {
+    pub(crate) guest: Guest<H::Connection>,
+    pub(crate) place: Place<H::Places>,
+    pub(crate) made: Snapshot<Made>,
+    pub(crate) ghost own: { made_event made.value
+        ≡ event.Admitted (guest_identity guest).serial (guest_identity guest).peer },
+}
+
+/// A connection whose program runs: the right to its end. Only `run` makes one. One thread may give it to another.
+pub struct Alive<H: Host> {
+    pub(crate) serial: u64,
+    pub(crate) running: Running<H::Places, H::Job>,
+}
 
 impl<H> Serving for Server<'_, H>
 where
@@ -161,5 +182,55 @@ where
 
     fn is_retired(&self, over: &Over) -> bool {
         over.is_retired
+    }
+}
+
+impl<H: Host> Server<'_, H> {
+    /// Starts the program of a connection that was allowed.
+    ///
+    /// # Errors
+    /// It could not be started. The connection is over.
+    pub(crate) fn run(
+        &self,
+        greeted: Greeted<'_, H::Connection>,
+        place: Place<H::Places>,
+        judged: Judged,
+    ) -> Result<(Alive<H>, Begun), Over>
+        requires may { MayStart (IsFoundFor (H.Rules.gives self.now.context.rules.now) H.Handle.opened H.missing)
+            H.File.honest H.File.sound (greeted_identity greeted) self.now.context.plan.now
+            (H.Connection.may (greeted_connection greeted)) }
+        requires allowed { IsDecided (IsFoundFor (H.Rules.gives self.now.context.rules.now) H.Handle.opened H.missing)
+            H.File.honest H.File.sound (greeted_identity greeted) self.now.context.plan.now
+            (noted_event judged.noted) Allow judged.environment }
+        ensures own { IfOk result (λ r. r.0.serial ≡ (greeted_identity greeted.entry).serial) }
+        ensures place { IfOk result (λ r. place_of r.0.running ≡ place) }
+        ensures told { IfOk result (λ r. begun_last r.1 ≡ event.Started (greeted_identity greeted.entry).serial) }
+        ensures child { IfOk result (λ r. IsChild
+            (IsFoundFor (H.Rules.gives self.now.context.rules.now) H.Handle.opened H.missing) H.File.honest H.File.sound
+            (greeted_identity greeted.entry) self.now.context.plan.now (begun_decided r.1)
+            (H.Job.program (job_of r.0.running)) (H.Job.environment (job_of r.0.running))) }
+        ensures over { IfErr result (λ over. over.serial ≡ (greeted_identity greeted.entry).serial) }
+        ensures reason { IfErr result (λ over. FailsToStart
+            (IsFoundFor (H.Rules.gives self.now.context.rules.now) H.Handle.opened H.missing) H.File.honest H.File.sound
+            (greeted_identity greeted.entry) self.now.context.plan.now
+            (H.Connection.refuses (greeted_connection greeted.entry)) (noted_event judged.noted) (over_end over)) }
+        ensures noted { IfErr result (λ over. over_decided over ≡ Some (noted_event judged.noted)) }
+    {
+        let Judged {
+            noted,
+            verdict: _,
+            environment,
+        } = judged;
+        let (context, serial) = (&self.context, greeted.identity.serial);
+        let program = context.plan.program();
+        let started = greeted.start(context.alloc, place, program, &environment);
+        drop(environment);
+        match started {
+            Ok(running) => {
+                let begun = context.started(noted, serial, &running);
+                Ok((Alive { serial, running }, begun))
+            }
+            Err((place, refusal)) => Err(context.start_failed(noted, serial, place, refusal)),
+        }
     }
 }
