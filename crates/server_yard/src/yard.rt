@@ -179,6 +179,13 @@ impl<L: Ledger> Yard<L> {
         self.speaker = speaker;
     }
 
+    /// Who makes them: 0 for nobody.
+    pub fn speaking(&self) -> u64
+        ensures { result ≡ (yard_roll self.now).speaker }
+    {
+        self.speaker
+    }
+
     // The serial of the connection that last got the place of an index, or 0.
     fn number(&self, index: usize) -> u64
         ensures { result ≡ number_at (yard_seat self.now index) }

@@ -20,29 +20,19 @@ use Rattle.shared_site.specs.Receipts.{receipt_after, receipt_of}
 use Rattle.shared_site.specs.declared.receipt.Made.{Made}
 use Rattle.shared_site.specs.declared.receipt.OutOfTurn.{OutOfTurn}
 
--- the same with another speaker
-abbrev pub spoken_by : ℕ → Roll → Roll
-spoken_by who roll = record roll { speaker = who }
+-- this event of a connection was noted, and a serial that it gives fits; or there was nothing to tell, and no event
+abbrev pub NotesTold : Option Event → (old new : Roll) → Type 0
+NotesTold None old new = IsQuiet old new
+NotesTold (Some event) old new = (is_connections event ≡ true) × Notes event old new × FitsSerial event
 
--- an event that may happen now does, and is noted as this caller's
-abbrev pub NotesBy : ℕ → Event → (old new : Roll) → Type 0
-NotesBy who event old new = Notes event (spoken_by who old) new
-
--- this event of a connection was noted, as this caller's, and a serial that it gives fits; or there was nothing to
--- tell, and no event
-abbrev pub NotesAs : (who : ℕ) → Option Event → (old new : Roll) → Type 0
-NotesAs who None old new = IsQuiet (spoken_by who old) new
-NotesAs who (Some event) old new = (is_connections event ≡ true) × NotesBy who event old new × FitsSerial event
-
--- this event was noted last, as this caller's
-pub record IsLastOf (who : ℕ) (event : Event) (roll : Roll) : Type 0 where
+-- this event was noted last
+pub record IsLast (event : Event) (roll : Roll) : Type 0 where
   pub before : Roll
-  pub noted : NotesBy who event before roll
+  pub noted : Notes event before roll
 
--- a turn of a caller gave this answer between these states of a yard, as it may by the numbers of events before and
--- after it
-abbrev pub Answers : {A L : Type 0} → (answers : ℕ → ℕ → A → ℕ → Type 0) → (who : ℕ) → A → (old new : Yard L) → Type 0
-Answers answers who answer old new = answers who (yard_books old).count answer (yard_books new).count
+-- a turn gave this answer between these states of a yard, as it may by their speaker and their numbers of events
+abbrev pub Answers : {A L : Type 0} → (answers : ℕ → ℕ → A → ℕ → Type 0) → A → (old new : Yard L) → Type 0
+Answers answers answer old new = answers (yard_roll old).speaker (yard_books old).count answer (yard_books new).count
 
 -- it is an answer that a turn may give, to some caller after some events
 pub record IsAnswer {A : Type 0} (answers : ℕ → ℕ → A → ℕ → Type 0) (answer : A) : Type 0 where
@@ -51,18 +41,12 @@ pub record IsAnswer {A : Type 0} (answers : ℕ → ℕ → A → ℕ → Type 0
   pub after : ℕ
   pub answered : answers who before answer after
 
--- a yard is as before, but for the speaker
-pub record IsPassedOver {L : Type 0} (who : ℕ) (old new : Yard L) : Type 0 where
-  pub roll : yard_roll new ≡ spoken_by who (yard_roll old)
-  pub beside : IsSameBeside old new
-  pub seats : KeepsSeats (yard_seat old) (yard_seat new)
-
--- A turn of a caller made this event, or it was out of turn and made none. An event that was made is noted as the
--- caller's. Out of turn nothing changed but the speaker. In turn or not, the yard is the same beside its events, and so
--- are all seats and the room beyond what its connections need.
-pub record Makes {L : Type 0} (who : ℕ) (event : Event) (was_made : Bool) (old new : Yard L) : Type 0 where
-  pub noted : OnTrue was_made (NotesBy who event (yard_roll old) (yard_roll new))
-  pub out : OnFalse was_made (IsPassedOver who old new)
+-- A turn made this event, or it was out of turn and made none. An event that was made is noted. Out of turn nothing
+-- changed. In turn or not, the yard is the same beside its events, and so are all seats and the room beyond what its
+-- connections need.
+pub record Makes {L : Type 0} (event : Event) (was_made : Bool) (old new : Yard L) : Type 0 where
+  pub noted : OnTrue was_made (Notes event (yard_roll old) (yard_roll new))
+  pub out : OnFalse was_made (new ≡ old)
   pub room : KeepsRoom (yard_roll old) (yard_roll new)
   pub same : IsSameBeside old new
   pub seats : KeepsSeats (yard_seat old) (yard_seat new)

@@ -1,10 +1,9 @@
 //! The site: a yard under one lock, for many threads. A thread hands it a turn: a value that asks for one event.
 //!
 //! There is a type of turns for each event of a connection, and one for the three by which it goes. A thread can't know
-//! whether its event is allowed now. So a turn notes its caller as the speaker, and tests whether the table of events
-//! allows the event. If it does, the turn makes the yard's call of its name, and answers which event that was.
-//! Otherwise nothing changed but the speaker, and the place of a connection that was to go stays counted. No turn waits
-//! or takes memory of its own.
+//! whether its event is allowed now. So a turn tests whether the table of events allows the event. If it does, the turn
+//! makes the yard's call of its name, and answers which event that was. Otherwise nothing changed, and the place of a
+//! connection that was to go stays counted. No turn waits or takes memory of its own.
 //!
 //! `in_turn` says when a turn's event is made, and `makes` all that the turn then does, or leaves as it was. Such an
 //! event is a step over whatever directory other processes left (`whole_yard::laws::noted_leads`).
@@ -14,13 +13,13 @@ ghost use Rattle.server_events.specs.declared.event.Event.{Event};
 ghost use Rattle.server_events.specs.declared.event.Stage.{Stage as StageOf};
 ghost use Rattle.server_yard.specs.Leavings.{leaving_event, may_leave};
 ghost use Rattle.server_yard.specs.Passes.{IsDecidedBy, pass_missing, pass_serial};
-ghost use Rattle.server_yard.specs.Rolls.{IsQuiet};
+ghost use Rattle.server_yard.specs.Rolls.{IsQuiet, Notes};
 ghost use Rattle.server_yard.specs.Rooms.{KeepsRoom};
 ghost use Rattle.server_yard.specs.Seating.{GivesSeat, KeepsSerials};
 ghost use Rattle.server_yard.specs.Yards.{HasRun, IsRunOf, IsSameBeside, yard_books, yard_missing, yard_roll, yard_seat, yard_server};
 ghost use Rattle.server_yard.specs.declared.yard.AdmitFault.TheVariants.{Full, FullForAddress, Spent};
 ghost use Rattle.shared_site.specs.Receipts.{AdmitsOrNot, MakesOrNot, Refuses, receipt_at, receipt_of, refused_as, shown_event};
-ghost use Rattle.shared_site.specs.Turns.{Answers, IsAnswer, IsAt, IsLastOf, IsPassedOver, Makes, MayBeDecided, NotesAs, NotesBy, OpensBy, spoken_by, told_if_admitted, told_if_made, told_if_opened, told_then};
+ghost use Rattle.shared_site.specs.Turns.{Answers, IsAnswer, IsAt, IsLast, Makes, MayBeDecided, NotesTold, OpensBy, told_if_admitted, told_if_made, told_if_opened, told_then};
 ghost use Rattle.std.specs.Prelude.{◌≡◌, ◌↔◌, ⊤, Bool, Err, IfOk, IfSome, IsOk, IsTrue, List, None, OnErr, OnOk, Option, Some, ℕ, false, is_ok, is_some, true};
 ghost use Rattle.server_events.specs.declared.event.Event.TheVariants as event;
 
@@ -33,9 +32,6 @@ use server_yard::{AdmitFault, Leaving, Pass, Yard};
 use std::snapshot::Snapshot;
 use std::sync::ledger::Ledger;
 use std::sync::{Mutex, Wait};
-
-/// The number under which the events of a site are noted: it has one caller, whichever thread makes a turn.
-const SPEAKER: u64 = 0;
 
 // A yard, of which all events are those of this site.
 #[derive(Drop)]
@@ -54,7 +50,7 @@ impl<G: Ground> Guarded<G> {
         ensures runs_on { (events : List Event) → IsRunOf events self.old.yard
             → IsRunOf (told_then events (T.tells turn result)) self.new.yard }
     {
-        turn.run(&mut self.yard, SPEAKER)
+        turn.run(&mut self.yard)
     }
 }
 
@@ -104,32 +100,32 @@ pub trait Turn<G: Ground> {
     /// What has to hold of the turn itself before it may run.
     ghost may: { Self → Type 0 };
 
-    /// After this many events, run for the caller with this number, the turn may give this answer, and this many events
-    /// have happened then.
+    /// After this many events of a yard whose speaker has this number, the turn may give this answer, and this many
+    /// events have happened then.
     ghost answers: { Self → (who before : ℕ) → Self.Answer → (after : ℕ) → Type 0 };
 
     /// Which event of a connection it made, by its answer.
     ghost tells: { Self → Self.Answer → Option Event };
 
-    /// Runs the turn on a yard, for the caller with this number.
-    fn run(self, yard: &mut YardOf<G>, caller: u64) -> Self::Answer
+    /// Runs the turn on a yard.
+    fn run(self, yard: &mut YardOf<G>) -> Self::Answer
         requires may { may self }
         requires missing { yard_missing yard.old ≡ G.missing }
-        ensures answers { answers self caller
-            (yard_books yard.old).count result (yard_books yard.new).count }
-        ensures notes { NotesAs caller (tells self result) (yard_roll yard.old) (yard_roll yard.new) }
+        ensures answers { Answers (answers self) result yard.old yard.new }
+        ensures notes { NotesTold (tells self result) (yard_roll yard.old) (yard_roll yard.new) }
         ensures room { KeepsRoom (yard_roll yard.old) (yard_roll yard.new) }
         ensures same { IsSameBeside yard.old yard.new };
 }
 
-/// Evidence that a caller made a yard's last event, as which this event was just noted. There is no other way to
+/// Evidence of a yard's last event, as which this event was just noted, for its speaker. There is no other way to
 /// evidence.
-pub fn made<L: Ledger>(yard: &Yard<L>, caller: u64, event: EventSnapshot) -> Made
-    requires last { IsLastOf caller (shown_event event) (yard_roll yard.now) }
-    ensures its { receipt_of result ≡ receipt_at (yard_books yard.now).count caller (shown_event event) }
+pub fn made<L: Ledger>(yard: &Yard<L>, event: EventSnapshot) -> Made
+    requires last { IsLast (shown_event event) (yard_roll yard.now) }
+    ensures its { receipt_of result
+        ≡ receipt_at (yard_books yard.now).count (yard_roll yard.now).speaker (shown_event event) }
 {
     Made {
-        caller,
+        caller: yard.speaking(),
         at: yard.journal().events(),
         shown: event,
     }
@@ -138,7 +134,7 @@ pub fn made<L: Ledger>(yard: &Yard<L>, caller: u64, event: EventSnapshot) -> Mad
 /// Lets a connection in, as `Yard::admit` does, as long as the last number of an event is not given.
 ///
 /// # Errors
-/// `Spent` if it is; otherwise those of `Yard::admit`. They are evidence. Nothing changed but the speaker.
+/// `Spent` if it is; otherwise those of `Yard::admit`. They are evidence. Nothing changed.
 #[derive(Drop)]
 pub struct Admit<'a> {
     /// The client.
@@ -154,13 +150,9 @@ impl<G: Ground> Turn<G> for Admit<'_> {
 
     ghost tells = { λ turn. told_if_admitted turn.peer.now };
 
-    fn run(
-        self,
-        yard: &mut YardOf<G>,
-        caller: u64,
-    ) -> Result<(u64, Place<G::Places>, Made), Refusal>
-        ensures answers { Answers (AdmitsOrNot self.entry.peer.now) caller result yard.old yard.new }
-        ensures notes { NotesAs caller
+    fn run(self, yard: &mut YardOf<G>) -> Result<(u64, Place<G::Places>, Made), Refusal>
+        ensures answers { Answers (AdmitsOrNot self.entry.peer.now) result yard.old yard.new }
+        ensures notes { NotesTold
             (told_if_admitted self.entry.peer.now result)
             (yard_roll yard.old) (yard_roll yard.new) }
         ensures full { (refused_as result ≡ Some Full)
@@ -169,24 +161,23 @@ impl<G: Ground> Turn<G> for Admit<'_> {
             ↔ Refuses Spent self.entry.peer.now.ip (yard_books yard.old).count (yard_server yard.old) }
         ensures full_for_address { (refused_as result ≡ Some FullForAddress)
             ↔ Refuses FullForAddress self.entry.peer.now.ip (yard_books yard.old).count (yard_server yard.old) }
-        ensures noted { IfOk result (λ r. NotesBy
-            caller (event.Admitted r.0 self.entry.peer.now) (yard_roll yard.old) (yard_roll yard.new)) }
+        ensures noted { IfOk result (λ r. Notes
+            (event.Admitted r.0 self.entry.peer.now) (yard_roll yard.old) (yard_roll yard.new)) }
         ensures seat { IfOk result (λ r. GivesSeat r.1 r.0 (yard_seat yard.old) (yard_seat yard.new)) }
         ensures room { KeepsRoom (yard_roll yard.old) (yard_roll yard.new) }
         ensures same { IsSameBeside yard.old yard.new }
-        ensures refused { OnErr result (IsQuiet (spoken_by caller (yard_roll yard.old)) (yard_roll yard.new)) }
+        ensures refused { OnErr result (IsQuiet (yard_roll yard.old) (yard_roll yard.new)) }
         ensures same_seats { OnErr result
             (KeepsSerials (yard_server yard.old) (yard_seat yard.old) (yard_seat yard.new)) }
     {
         let Admit { peer } = self;
-        yard.speaker(caller);
         if yard.journal().events() == u64::MAX {
             return Err(Refusal::of(yard, peer, AdmitFault::Spent));
         }
         match yard.admit(peer) {
             Ok((serial, place)) => {
                 let event = EventSnapshot::Admitted(Snapshot::of(&serial), Snapshot::of(peer));
-                Ok((serial, place, made(yard, caller, event)))
+                Ok((serial, place, made(yard, event)))
             }
             Err(fault) => Err(Refusal::of(yard, peer, fault)),
         }
@@ -194,7 +185,7 @@ impl<G: Ground> Turn<G> for Admit<'_> {
 }
 
 /// Notes that a connection opened the rules and found this, as `Yard::opened` does. It has to be let in, and
-/// must not have opened them before. Otherwise the answer is `None`: nothing changes but the speaker, and the file is
+/// must not have opened them before. Otherwise the answer is `None`: nothing changes, and the file is
 /// dropped.
 #[derive(Drop)]
 pub struct Opened<G: Ground> {
@@ -213,26 +204,25 @@ impl<G: Ground> Turn<G> for Opened<G> {
 
     ghost tells = { λ turn. told_if_opened turn.serial (is_some turn.file) };
 
-    fn run(self, yard: &mut YardOf<G>, caller: u64) -> Option<(Pass<G::Places, G::File>, Made)>
+    fn run(self, yard: &mut YardOf<G>) -> Option<(Pass<G::Places, G::File>, Made)>
         requires missing { yard_missing yard.old ≡ G.missing }
-        ensures answers { Answers (OpensBy G.missing self.serial self.file) caller result yard.old yard.new }
-        ensures notes { NotesAs caller
+        ensures answers { Answers (OpensBy G.missing self.serial self.file) result yard.old yard.new }
+        ensures notes { NotesTold
             (told_if_opened self.serial (is_some self.file) result)
             (yard_roll yard.old) (yard_roll yard.new) }
         ensures in_turn { is_some result ≡ is_admitted (stage_of self.serial (yard_server yard.old).connections) }
         ensures missing { IfSome result (λ r. pass_missing r.0 ≡ yard_missing yard.old) }
-        ensures makes { Makes caller (event.Opened self.serial (is_some self.file))
+        ensures makes { Makes (event.Opened self.serial (is_some self.file))
             (is_some result) yard.old yard.new }
     {
         let Opened { serial, file } = self;
-        yard.speaker(caller);
         if !is_admitted(yard.stage(serial)) {
             return None;
         }
         let pass = yard.opened(serial, file);
         let there = pass.source().is_some();
         let event = EventSnapshot::of(Event::Opened { serial, there });
-        Some((pass, made(yard, caller, event)))
+        Some((pass, made(yard, event)))
     }
 }
 
@@ -240,7 +230,7 @@ impl<G: Ground> Turn<G> for Opened<G> {
 /// peer, and the pass has to have what the yard decides without a file.
 ///
 /// # Errors
-/// The event is out of turn. Nothing changed but the speaker.
+/// The event is out of turn. Nothing changed.
 #[derive(Drop)]
 pub struct Decided<'a, G: Ground> {
     /// What the connection opened.
@@ -260,26 +250,25 @@ impl<G: Ground> Turn<G> for Decided<'_, G> {
 
     ghost tells = { λ turn. told_if_made (event.Decided (pass_serial turn.pass) turn.decision) };
 
-    fn run(self, yard: &mut YardOf<G>, caller: u64) -> Result<Made, OutOfTurn>
+    fn run(self, yard: &mut YardOf<G>) -> Result<Made, OutOfTurn>
         requires decides { IsDecidedBy G.File.honest G.File.sound G.File.bytes self.pass self.peer.now self.decision }
         ensures answers { Answers (MakesOrNot (event.Decided (pass_serial self.entry.pass) self.entry.decision))
-            caller result yard.old yard.new }
-        ensures notes { NotesAs caller
+            result yard.old yard.new }
+        ensures notes { NotesTold
             (told_if_made (event.Decided (pass_serial self.entry.pass) self.entry.decision) result)
             (yard_roll yard.old) (yard_roll yard.new) }
         ensures in_turn { IsOk result ↔ MayBeDecided yard.old self.entry.pass self.entry.peer.now }
-        ensures makes { Makes caller (event.Decided (pass_serial self.entry.pass) self.entry.decision)
+        ensures makes { Makes (event.Decided (pass_serial self.entry.pass) self.entry.decision)
             (is_ok result) yard.old yard.new }
     {
         let (pass, peer, decision) = (self.pass, self.peer, self.decision);
-        yard.speaker(caller);
         let serial = pass.serial();
         let event = EventSnapshot::Decided(Snapshot::of(&serial), Snapshot::of(&decision));
         if !may_be_decided::<G>(yard, &pass, peer) {
             return Err(OutOfTurn { asked: event });
         }
         yard.decided(pass, peer, decision);
-        Ok(made(yard, caller, event))
+        Ok(made(yard, event))
     }
 }
 
@@ -287,7 +276,7 @@ impl<G: Ground> Turn<G> for Decided<'_, G> {
 /// the child's place, and to be allowed.
 ///
 /// # Errors
-/// The event is out of turn. Nothing changed but the speaker.
+/// The event is out of turn. Nothing changed.
 #[derive(Drop)]
 pub struct Started<'a, G: Ground, C: Job> {
     /// The connection's serial.
@@ -305,21 +294,21 @@ impl<G: Ground, C: Job> Turn<G> for Started<'_, G, C> {
 
     ghost tells = { λ turn. told_if_made (event.Started turn.serial) };
 
-    fn run(self, yard: &mut YardOf<G>, caller: u64) -> Result<Made, OutOfTurn>
-        ensures answers { Answers (MakesOrNot (event.Started self.entry.serial)) caller result yard.old yard.new }
-        ensures notes { NotesAs caller
+    fn run(self, yard: &mut YardOf<G>) -> Result<Made, OutOfTurn>
+        ensures answers { Answers (MakesOrNot (event.Started self.entry.serial)) result yard.old yard.new }
+        ensures notes { NotesTold
             (told_if_made (event.Started self.entry.serial) result)
             (yard_roll yard.old) (yard_roll yard.new) }
         ensures in_turn { IsOk result ↔ IsAt is_allowed self.entry.serial yard.old (place_of self.entry.running.now) }
-        ensures makes { Makes caller (event.Started self.entry.serial) (is_ok result) yard.old yard.new }
+        ensures makes { Makes (event.Started self.entry.serial) (is_ok result) yard.old yard.new }
     {
         let Started { serial, running } = self;
         let event = EventSnapshot::of(Event::Started { serial });
-        if !is_allowed(speak_at::<G>(yard, caller, running.place(), serial)) {
+        if !is_allowed(stage_at::<G>(yard, running.place(), serial)) {
             return Err(OutOfTurn { asked: event });
         }
         yard.started(running);
-        Ok(made(yard, caller, event))
+        Ok(made(yard, event))
     }
 }
 
@@ -327,7 +316,7 @@ impl<G: Ground, C: Job> Turn<G> for Started<'_, G, C> {
 /// and to be in a stage from which it may go so.
 ///
 /// # Errors
-/// The event is out of turn. The place stays counted for good, and nothing changed but the speaker.
+/// The event is out of turn. The place stays counted for good, and nothing changed.
 pub struct Left<G: Ground> {
     /// The connection's serial.
     pub serial: u64,
@@ -346,14 +335,13 @@ impl<G: Ground> Turn<G> for Left<G> {
 
     ghost tells = { λ turn. told_if_made (leaving_event turn.leaving turn.serial) };
 
-    fn run(self, yard: &mut YardOf<G>, caller: u64) -> Result<Made, OutOfTurn>
-        ensures answers { Answers (MakesOrNot (leaving_event self.leaving self.serial))
-            caller result yard.old yard.new }
-        ensures notes { NotesAs caller
+    fn run(self, yard: &mut YardOf<G>) -> Result<Made, OutOfTurn>
+        ensures answers { Answers (MakesOrNot (leaving_event self.leaving self.serial)) result yard.old yard.new }
+        ensures notes { NotesTold
             (told_if_made (leaving_event self.leaving self.serial) result)
             (yard_roll yard.old) (yard_roll yard.new) }
         ensures in_turn { IsOk result ↔ IsAt (may_leave self.leaving) self.serial yard.old self.place }
-        ensures makes { Makes caller (leaving_event self.leaving self.serial) (is_ok result) yard.old yard.new }
+        ensures makes { Makes (leaving_event self.leaving self.serial) (is_ok result) yard.old yard.new }
         ensures gone { OnOk result (stage_of self.serial (yard_server yard.new).connections ≡ None) }
     {
         let Left {
@@ -362,12 +350,12 @@ impl<G: Ground> Turn<G> for Left<G> {
             leaving,
         } = self;
         let event = EventSnapshot::of(leaving.event(serial));
-        if !leaving.may_be(speak_at::<G>(yard, caller, &place, serial)) {
+        if !leaving.may_be(stage_at::<G>(yard, &place, serial)) {
             place.strand();
             return Err(OutOfTurn { asked: event });
         }
         yard.left(place, leaving);
-        Ok(made(yard, caller, event))
+        Ok(made(yard, event))
     }
 }
 
@@ -376,7 +364,7 @@ impl<G: Ground> Turn<G> for Left<G> {
 /// and its place stays counted for good.
 ///
 /// # Errors
-/// The event is out of turn. Nothing changed but the speaker.
+/// The event is out of turn. Nothing changed.
 pub struct Retired<G: Ground, C: Job> {
     /// The connection's serial.
     pub serial: u64,
@@ -393,22 +381,22 @@ impl<G: Ground, C: Job> Turn<G> for Retired<G, C> {
 
     ghost tells = { λ turn. told_if_made (event.Retired turn.serial) };
 
-    fn run(self, yard: &mut YardOf<G>, caller: u64) -> Result<Made, OutOfTurn>
-        ensures answers { Answers (MakesOrNot (event.Retired self.serial)) caller result yard.old yard.new }
-        ensures notes { NotesAs caller
+    fn run(self, yard: &mut YardOf<G>) -> Result<Made, OutOfTurn>
+        ensures answers { Answers (MakesOrNot (event.Retired self.serial)) result yard.old yard.new }
+        ensures notes { NotesTold
             (told_if_made (event.Retired self.serial) result)
             (yard_roll yard.old) (yard_roll yard.new) }
         ensures in_turn { IsOk result ↔ IsAt is_started self.serial yard.old (place_of self.running) }
-        ensures makes { Makes caller (event.Retired self.serial) (is_ok result) yard.old yard.new }
+        ensures makes { Makes (event.Retired self.serial) (is_ok result) yard.old yard.new }
     {
         let Retired { serial, running } = self;
         let event = EventSnapshot::of(Event::Retired { serial });
-        if !is_started(speak_at::<G>(yard, caller, running.place(), serial)) {
+        if !is_started(stage_at::<G>(yard, running.place(), serial)) {
             running.strand();
             return Err(OutOfTurn { asked: event });
         }
         yard.retired(running);
-        Ok(made(yard, caller, event))
+        Ok(made(yard, event))
     }
 }
 
@@ -440,20 +428,11 @@ fn may_be_decided<G: Ground>(yard: &YardOf<G>, pass: &Pass<G::Places, G::File>, 
         && yard.is_peer(pass.serial(), peer)
 }
 
-// Makes a caller the speaker, and answers the stage of the connection at a place, if that has this serial.
-fn speak_at<G: Ground>(
-    yard: &mut YardOf<G>,
-    caller: u64,
-    place: &Place<G::Places>,
-    serial: u64,
-) -> Option<Stage>
-    ensures spoken { IsPassedOver caller yard.old yard.new }
-    ensures passes { (passes : Option StageOf → Bool) → passes None ≡ false
-        → (passes result ≡ true) ↔ IsAt passes serial yard.old place.now }
-    ensures stays { (passes : Option StageOf → Bool) → passes None ≡ false
-        → passes result ≡ true → IsAt passes serial yard.new place.now }
+// The stage of the connection at a place, if that has this serial.
+fn stage_at<G: Ground>(yard: &YardOf<G>, place: &Place<G::Places>, serial: u64) -> Option<Stage>
+    ensures { (passes : Option StageOf → Bool) → passes None ≡ false
+        → (passes result ≡ true) ↔ IsAt passes serial yard.now place.now }
 {
-    yard.speaker(caller);
     match yard.stage_of(place) {
         Some((own, stage)) if own == serial => Some(stage),
         _ => None,

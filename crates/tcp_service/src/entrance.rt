@@ -85,9 +85,9 @@ impl<G: ServiceGround> Turn<G> for TellingAdmission<'_, G> {
 
     ghost tells = { λ turn. told_if_admitted turn.peer.now };
 
-    fn run(self, yard: &mut YardOf<G>, caller: u64) -> Result<AdmittedBy<G>, Refusal> {
+    fn run(self, yard: &mut YardOf<G>) -> Result<AdmittedBy<G>, Refusal> {
         let TellingAdmission { peer, rt, log } = self;
-        let admitted = Turn::<G>::run(Admit { peer }, yard, caller);
+        let admitted = Turn::<G>::run(Admit { peer }, yard);
         tell_admission::<G>(rt, log, peer, yard.live(), &admitted);
         admitted
     }

@@ -338,14 +338,14 @@ where
 
     ghost tells = { λ telling. T.tells telling.turn };
 
-    fn run(self, yard: &mut YardOf<G>, caller: u64) -> Result<Made, OutOfTurn> {
+    fn run(self, yard: &mut YardOf<G>) -> Result<Made, OutOfTurn> {
         let Telling {
             turn,
             told,
             rt,
             log,
         } = self;
-        let answer = turn.run(yard, caller);
+        let answer = turn.run(yard);
         if let Ok(made) = &answer {
             let _ = log.lock(rt).tell(made.at(), yard.live(), told);
         }

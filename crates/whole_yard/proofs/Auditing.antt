@@ -4,10 +4,9 @@ use Rattle.std.specs.Prelude.{IfSome, IsPermutation, None, Option, Some, slice_g
 use Rattle.std.proofs.Math.Seq.{take-nil}
 use Rattle.std.proofs.lemmas.Bool.{cases_order}
 use Rattle.std.proofs.lemmas.Bool.Decides.{nat_tests}
-use Rattle.std.proofs.lemmas.List.{length-take-le, take-take}
 use Rattle.std.proofs.lemmas.Option.{get_or_from_slice_get, none-some, same_Some, slice_get-get_or, slice_get_within}
 use Rattle.server_events.specs.declared.journal.Noted.{Noted}
-use Rattle.whole_yard.specs.Audits.{AreOthersUpTo, AreRight, AreRightBefore, IsAbove, Rise, StandsAtItsPosition, note_at, note_of}
+use Rattle.whole_yard.specs.Audits.{AreOthersUpTo, AreRight, IsAbove, Rise, StandsAtItsPosition, note_at, note_of}
 use Rattle.shared_site.specs.declared.receipt.Receipt.{Receipt}
 use Rattle.whole_yard.proofs.Placed.{all_placed, placed_from}
 
@@ -92,19 +91,6 @@ whole_history notes receipts before right as_many others =
     all_placed (position_since before) note_of (drop before notes) receipts
     (placed_from (position_since before) note_of (drop before notes) receipts stands apart)
     (omega (arith, as_many, length-drop before notes))
-
--- the positions of receipts that are right rise
-pub right_rise : (notes : List Noted) (receipts : List Receipt) (n : ℕ) → n ≤ length receipts → AreRightBefore notes receipts n → Rise (take n receipts)
-right_rise notes receipts n within right = λ i below.
-    let under : i < n = omega (arith, below, length-take-le n receipts within) in
-    let P : Option Receipt → Type 0 = λ o. IfSome o (IsAbove (take i (take n receipts))) in
-    let Q : List Receipt → Type 0 = λ xs. IfSome (slice_get receipts i) (IsAbove xs) in
-    subst P (sym (slice_get-take receipts n i under)) (subst Q (sym (take-take i n receipts (omega (arith, under))))
-    (second (slice_get receipts i) (StandsAtItsPosition notes) (IsAbove (take i receipts)) (right i under)))
-  where
-    second : {X : Type 0} (o : Option X) (P Q : X → Type 0) → IfSome o (λ x. P x × Q x) → IfSome o Q
-    second None P Q both = tt
-    second (Some x) P Q both = both.1
 
 -- what is above the last earlier receipt of its caller is above all of them
 pub above_last : (earlier : List Receipt) (i : ℕ) (e r : Receipt) → Rise earlier → i < length earlier → e ≡ get_or earlier i e → e.caller ≡ r.caller

@@ -6,15 +6,14 @@ use Rattle.rules_install.specs.Installing.{Installing}
 use Rattle.dir_calls.specs.declared.phase.Phase.{Phase}
 use Rattle.rules_install.specs.declared.fault.InstallFault.{InstallFault}
 use Rattle.server_events.specs.declared.event.Event.{Event}
-use Rattle.server_yard.specs.Rolls.{NotesSome, Roll}
+use Rattle.server_yard.specs.Rolls.{Notes, NotesSome, Roll}
 use Rattle.whole_yard.specs.Stepping.{event_of_step, step_event}
 use Rattle.whole_yard.specs.WholeYards.{IsSameBesides, IsSameButDirectory, MayBegin, kept_under, last_begun, name_of, whole_roll, whole_rules, whole_state}
 use Rattle.whole_yard.specs.declared.yard.WholeYard.{WholeYard}
-use Rattle.shared_site.specs.Receipts.{receipt_after, receipt_at}
-use Rattle.whole_yard.specs.Callers.{CountsAtMostOne}
-use Rattle.shared_site.specs.Turns.{IsLastOf, spoken_by}
+use Rattle.shared_site.specs.Receipts.{receipt_after, receipt_at, receipt_of}
+use Rattle.shared_site.specs.declared.receipt.Made.{Made}
+use Rattle.whole_yard.specs.Callers.{CountsAtMostOne, IsLastOf, NotesBy, spoken_by}
 use Rattle.whole_yard.proofs.Counts.{one_counted, quiet_counted}
-use Rattle.shared_site.proofs.Making.{last_of}
 
 -- who speaks is nothing that worlds see
 pub spoken_state : {L D F : Type 0} {p : _} {l : _} {d : _} (who : ℕ)
@@ -67,6 +66,23 @@ pub some_counted : (who : ℕ) (event : Option Event) (old mid new : Roll)
     → mid ≡ spoken_by who old → NotesSome event mid new → CountsAtMostOne old.books.count new.books.count
 some_counted who None old mid new speaks noted = quiet_counted who old mid new speaks noted
 some_counted who (Some event) old mid new speaks noted = one_counted who event old mid new speaks noted
+
+-- the event of a call is its caller's, who spoke before
+pub noted_by : (who : ℕ) (event : Event) (old mid new : Roll) → mid ≡ spoken_by who old → Notes event mid new → NotesBy who event old new
+noted_by who event old mid new speaks noted = subst (λ (r : Roll). Notes event r new) speaks noted
+
+pub last_of : (who : ℕ) (event shown : Event) (old mid new : Roll) → mid ≡ spoken_by who old → Notes event mid new → shown ≡ event
+    → IsLastOf who shown new
+last_of who event shown old mid new speaks noted same = record {
+  before = old;
+  noted = subst (λ (e : Event). NotesBy who e old new) (sym same) (noted_by who event old mid new speaks noted);
+}
+
+-- what its evidence says
+pub answered : (who : ℕ) (event shown : Event) (made : Made) (old new : Roll) → NotesBy who event old new → shown ≡ event
+    → receipt_of made ≡ receipt_at new.books.count who shown
+    → (receipt_of made ≡ receipt_after old.books.count who event) × (new.books.count ≡ one_more old.books.count)
+answered who event shown made old new noted same is = (is ∙ (λ i. receipt_at (noted.counts i) who (same i)), noted.counts)
 
 -- and that event is the last one
 pub last_of_some : (who : ℕ) (event : Option Event) (old mid new : Roll)

@@ -3,8 +3,7 @@ use Rattle.std.proofs.Common.{◌≡◌, ◌<◌, ◌+◌, ◌-◌, ◌^◌, ℕ
 use Rattle.server_events.specs.Journals.{one_more}
 use Rattle.server_events.specs.declared.event.Event.{Event}
 use Rattle.server_yard.specs.Rolls.{IsQuiet, Notes, Roll}
-use Rattle.shared_site.specs.Turns.{spoken_by}
-use Rattle.whole_yard.specs.Callers.{CountsAtMostOne}
+use Rattle.whole_yard.specs.Callers.{CountsAtMostOne, spoken_by}
 
 -- an event that is noted is one more
 pub next_counted : (who : ℕ) (event : Event) (old mid new : Roll)

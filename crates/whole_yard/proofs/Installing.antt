@@ -9,7 +9,7 @@ use Rattle.server_events.specs.declared.event.Event.{Event}
 use Rattle.server_yard.specs.Rolls.{NotesSome, Roll}
 use Rattle.whole_yard.specs.Stepping.{event_of_step, step_event}
 use Rattle.shared_site.specs.Receipts.{made_event, receipt_after, receipt_of}
-use Rattle.shared_site.specs.Turns.{spoken_by}
+use Rattle.whole_yard.specs.Callers.{spoken_by}
 use Rattle.shared_site.specs.declared.receipt.Made.{Made}
 use Rattle.shared_site.specs.declared.receipt.Receipt.{Receipt}
 use Rattle.whole_yard.specs.YardTurns.{CountsMade}

@@ -14,7 +14,7 @@ use Rattle.headline.proofs.WholeText.{reached_whole}
 use Rattle.whole_yard.specs.Installed.{KeepsHistory, IsWholeFile, installs_of}
 use Rattle.server_yard.specs.Passes.{trust_in}
 use Rattle.server_yard.specs.Rolls.{Notes, Roll}
-use Rattle.shared_site.specs.Turns.{NotesAs, spoken_by}
+use Rattle.shared_site.specs.Turns.{NotesTold}
 use Rattle.rules_install.specs.Installing.{Installing}
 use Rattle.whole_yard.specs.Serving.{with_roll}
 use Rattle.whole_yard.specs.Standing.{YardState}
@@ -99,18 +99,18 @@ kept_quiet {b} {b'} {y} {y'} t c o l w e r i k = record {
 }
 
 -- after a turn of a connection the phase is the same, and so is what the installations left
-pub phase_told : (who : ℕ) (told : Option Event) (old new : Roll) → NotesAs who told old new → new.server.phase ≡ old.server.phase
-phase_told who None old new quiet = ap (λ (u : ServerState). u.phase) quiet.stays
-phase_told who (Some e) old new noted = ap (λ (u : ServerState). u.phase) noted.1.happens ∙ phase_stays old.server e noted.0
+pub phase_told : (told : Option Event) (old new : Roll) → NotesTold told old new → new.server.phase ≡ old.server.phase
+phase_told None old new quiet = ap (λ (u : ServerState). u.phase) quiet.stays
+phase_told (Some e) old new noted = ap (λ (u : ServerState). u.phase) noted.1.happens ∙ phase_stays old.server e noted.0
 
-pub kept_told : (who : ℕ) (told : Option Event) (old new : Roll) → NotesAs who told old new → old.server.limit < 2 ^ 64
+pub kept_told : (told : Option Event) (old new : Roll) → NotesTold told old new → old.server.limit < 2 ^ 64
     → new.books.lists ≡ old.books.lists → (d : Directory) (rules : Option RulesName) (i : Option Installing)
     → KeepsHistory old.books (record { directory = d; rules = rules; server = old.server; installing = i })
     → KeepsHistory new.books (record { directory = d; rules = rules; server = new.server; installing = i })
-kept_told who None old new quiet small lists d rules i k =
+kept_told None old new quiet small lists d rules i k =
     kept_quiet quiet.tells quiet.counts quiet.stores lists quiet.stays refl refl refl k
-kept_told who (Some e) old new noted small lists d rules i k =
-    kept_on noted.0 lists refl refl refl (one_more_of e (spoken_by who old) new small noted.2 noted.1) k
+kept_told (Some e) old new noted small lists d rules i k =
+    kept_on noted.0 lists refl refl refl (one_more_of e old new small noted.2 noted.1) k
 
 pub is_some-map : {X Y : Type 0} (f : X → Y) (o : Option X) → is_some (option_map f o) ≡ is_some o
 is_some-map f None = refl

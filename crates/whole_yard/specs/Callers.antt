@@ -1,6 +1,8 @@
 -- The callers of a whole site, their turns, and what these add to their shares.
 use Rattle.std.specs.Prelude.{◌≡◌, ◌+◌, ◌⊎◌, ℕ}
 use Rattle.server_events.specs.Journals.{one_more}
+use Rattle.server_events.specs.declared.event.Event.{Event}
+use Rattle.server_yard.specs.Rolls.{Notes, Roll}
 use Rattle.whole_yard.specs.declared.caller.Caller.{Caller}
 use Rattle.whole_yard.specs.declared.caller.NewCallers.{NewCallers}
 
@@ -15,6 +17,19 @@ caller_share caller = caller.share.amount
 -- how many callers nobody has yet
 abbrev pub new_count : {N : Type 0} {l : _} → NewCallers N l → ℕ
 new_count callers = callers.count
+
+-- the same with another speaker
+abbrev pub spoken_by : ℕ → Roll → Roll
+spoken_by who roll = record roll { speaker = who }
+
+-- an event that may happen now does, and is noted as this caller's
+abbrev pub NotesBy : ℕ → Event → (old new : Roll) → Type 0
+NotesBy who event old new = Notes event (spoken_by who old) new
+
+-- this event was noted last, as this caller's
+pub record IsLastOf (who : ℕ) (event : Event) (roll : Roll) : Type 0 where
+  pub before : Roll
+  pub noted : NotesBy who event before roll
 
 -- a turn makes one event or none; a journal that only counts stays at its last number
 abbrev pub CountsAtMostOne : (old new : ℕ) → Type 0

@@ -1,5 +1,5 @@
--- A yard that makes all calls: the connections of a server and installations beside them, what the headline's worlds see
--- of both, its callers, and whether receipts are its history.
+-- A yard that makes all calls: the connections of a server and installations beside them, what the headline's worlds
+-- see of both, its callers, and whether receipts are its history.
 pub mod Callers
 pub mod UnderWay
 pub mod Series

@@ -11,7 +11,8 @@ use Rattle.whole_yard.specs.Stepping.{BeginAnswer, HandsBack, begin_event, step_
 use Rattle.server_yard.specs.declared.pass.Pass.{Pass}
 use Rattle.shared_site.specs.Receipts.{made_event, receipt_after, receipt_of}
 use Rattle.server_yard.specs.Seating.{KeepsSeats}
-use Rattle.shared_site.specs.Turns.{opened_by, spoken_by}
+use Rattle.shared_site.specs.Turns.{opened_by}
+use Rattle.whole_yard.specs.Callers.{spoken_by}
 use Rattle.whole_yard.specs.WholeYards.{IsSameBesides, whole_roll, whole_seat}
 use Rattle.whole_yard.specs.declared.yard.WholeYard.{WholeYard}
 use Rattle.shared_site.specs.declared.receipt.Made.{Made}

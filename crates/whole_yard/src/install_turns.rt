@@ -10,9 +10,8 @@ ghost use Rattle.server_yard.specs.Seating.{KeepsSeats};
 ghost use Rattle.whole_yard.specs.Standing.{LeadsSome};
 ghost use Rattle.whole_yard.specs.Stepping.{GoesAsStep, IsRefusedAs, begin_event, event_of_step, fault_event, kept_after_begin, kept_after_step, last_begun_after, lists_after_begin, step_event};
 ghost use Rattle.whole_yard.specs.WholeYards.{LeavesNothingElse, MayBegin, kept_number, kept_under, last_begun, whole_books, whole_directory, whole_installing, whole_roll, whole_rules, whole_seat, whole_state};
-ghost use Rattle.whole_yard.specs.Callers.{CountsAtMostOne};
+ghost use Rattle.whole_yard.specs.Callers.{CountsAtMostOne, IsLastOf, spoken_by};
 ghost use Rattle.shared_site.specs.Receipts.{receipt_after, receipt_at, receipt_of};
-ghost use Rattle.shared_site.specs.Turns.{IsLastOf, spoken_by};
 ghost use Rattle.whole_yard.specs.YardTurns.{BeginsOrNot, StepsOrNot};
 
 use crate::assumptions::Assumptions;

@@ -10,8 +10,7 @@ ghost use Rattle.server_yard.specs.Seating.{KeepsSeats};
 ghost use Rattle.whole_yard.specs.Installed.{IsWholeFile};
 ghost use Rattle.whole_yard.specs.Standing.{LeadsOpened, standing_of};
 ghost use Rattle.whole_yard.specs.WholeYards.{IsSameButDirectory, LeavesNothingElse, whole_books, whole_directory, whole_roll, whole_rules, whole_seat, whole_server, whole_state};
-ghost use Rattle.whole_yard.specs.Callers.{CountsAtMostOne};
-ghost use Rattle.shared_site.specs.Turns.{NotesBy, spoken_by};
+ghost use Rattle.whole_yard.specs.Callers.{CountsAtMostOne, NotesBy, spoken_by};
 ghost use Rattle.whole_yard.specs.YardTurns.{CountsDevice, IsOnlySpoken, OpensOrNot};
 ghost use Rattle.whole_yard.specs.declared.open_turn.OpenFault.TheVariants as open_fault;
 

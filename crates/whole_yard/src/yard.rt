@@ -19,7 +19,8 @@ ghost use Rattle.server_yard.specs.Rooms.{KeepsRoom};
 ghost use Rattle.server_yard.specs.Seating.{KeepsSeats};
 ghost use Rattle.server_yard.specs.Yards.{yard_books, yard_missing, yard_server};
 ghost use Rattle.shared_site.specs.Receipts.{receipt_at, receipt_of, shown_event};
-ghost use Rattle.shared_site.specs.Turns.{IsLastOf, NotesAs};
+ghost use Rattle.shared_site.specs.Turns.{NotesTold};
+ghost use Rattle.whole_yard.specs.Callers.{IsLastOf, spoken_by};
 ghost use Rattle.whole_yard.specs.Installed.{IsWholeFile, KeepsHistory};
 ghost use Rattle.whole_yard.specs.Kept.{FindsItsFile, FindsItsFile-prop, IsKeptInstallation, installing_of, is_kept, phase_of, rules_of, state_of};
 ghost use Rattle.whole_yard.specs.Readers.{ReadersFind};
@@ -141,11 +142,12 @@ impl<L: Assumptions, D: Dir + Drop> WholeYard<L, D> {
     pub fn connection<T: Turn<ConnectionsOver<L, D>>>(&mut self, turn: T, caller: u64) -> T::Answer
         requires may { T.may turn }
         ensures answers { T.answers turn caller (whole_books self.old).count result (whole_books self.new).count }
-        ensures notes { NotesAs caller (T.tells turn result) (whole_roll self.old) (whole_roll self.new) }
+        ensures notes { NotesTold (T.tells turn result) (spoken_by caller (whole_roll self.old)) (whole_roll self.new) }
         ensures room { KeepsRoom (whole_roll self.old) (whole_roll self.new) }
         ensures same { IsSameBesides self.old self.new }
     {
-        turn.run(&mut self.yard, caller)
+        self.yard.speaker(caller);
+        turn.run(&mut self.yard)
     }
 
     /// Evidence that a caller made the last event of this yard, as which this one was just noted.
@@ -153,7 +155,7 @@ impl<L: Assumptions, D: Dir + Drop> WholeYard<L, D> {
         requires last { IsLastOf caller (shown_event event) (whole_roll self.now) }
         ensures its { receipt_of result ≡ receipt_at (whole_books self.now).count caller (shown_event event) }
     {
-        made(&self.yard, caller, event)
+        made(&self.yard, event)
     }
 
     // What stands under the rules name.

@@ -13,11 +13,11 @@ returns g c = record {
     after = _;
     answered = c.run.ensures.answers;
   };
-  runs_on = λ events run. run_on _ (yard_roll c.args.self.now.yard) _ _ c.run.ensures.notes events run;
+  runs_on = λ events run. run_on (yard_roll c.args.self.now.yard) _ _ c.run.ensures.notes events run;
 }
 
 pub invariant_of-self : goal.invariant_of-self
 invariant_of-self g c = record {
   missing = c.run.ensures.same.missing ∙ c.args.self.now.missing;
-  ran = ∥∥₁_map c.args.self.now.ran (λ x. (_, run_on _ (yard_roll c.args.self.now.yard) _ _ c.run.ensures.notes x.0 x.1));
+  ran = ∥∥₁_map c.args.self.now.ran (λ x. (_, run_on (yard_roll c.args.self.now.yard) _ _ c.run.ensures.notes x.0 x.1));
 }

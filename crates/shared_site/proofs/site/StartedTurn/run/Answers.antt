@@ -8,42 +8,40 @@ use Rattle.shared_site.proofs.site.StartedTurn.run.Goals as goal
 
 pub started-requires : goal.started-requires
 started-requires g c =
-    let at = subst (λ (i : ℕ). IsAt is_allowed c.args.self.serial c.speak_at.new.yard i) c.place.ensures (c.speak_at.ensures.stays is_allowed refl (sym c.is_allowed.ensures ∙ (search rules))) in
+    let at = subst (λ (i : ℕ). IsAt is_allowed c.args.self.serial c.args.yard.now i) c.place.ensures ((c.stage_at.ensures is_allowed refl).0 (sym c.is_allowed.ensures ∙ (search rules))) in
     record { allowed = at.has_stage }
 
 pub made-requires : goal.made-requires
 made-requires g c =
-    let at = subst (λ (i : ℕ). IsAt is_allowed c.args.self.serial c.speak_at.new.yard i) c.place.ensures (c.speak_at.ensures.stays is_allowed refl (sym c.is_allowed.ensures ∙ (search rules))) in
+    let at = subst (λ (i : ℕ). IsAt is_allowed c.args.self.serial c.args.yard.now i) c.place.ensures ((c.stage_at.ensures is_allowed refl).0 (sym c.is_allowed.ensures ∙ (search rules))) in
     record {
-      last = last_own c.args.caller (λ (n : ℕ). event.Started n) _ c.args.self.serial _
-          (yard_roll c.args.yard.now) (yard_roll c.speak_at.new.yard) (yard_roll c.started.new.self)
-          at.has_serial c.speak_at.ensures.spoken.roll c.started.ensures.noted c.of-event.ensures;
+      last = last_own (λ (n : ℕ). event.Started n) _ c.args.self.serial _
+          (yard_roll c.args.yard.now) (yard_roll c.started.new.self) at.has_serial c.started.ensures.noted c.of-event.ensures;
     }
 
 pub returns-clause-makes : goal.returns-clause-makes
 returns-clause-makes g c =
-    let at = subst (λ (i : ℕ). IsAt is_allowed c.args.self.serial c.speak_at.new.yard i) c.place.ensures (c.speak_at.ensures.stays is_allowed refl (sym c.is_allowed.ensures ∙ (search rules))) in
+    let at = subst (λ (i : ℕ). IsAt is_allowed c.args.self.serial c.args.yard.now i) c.place.ensures ((c.stage_at.ensures is_allowed refl).0 (sym c.is_allowed.ensures ∙ (search rules))) in
     let call = c.started in
-    made_own c.args.caller (λ (n : ℕ). event.Started n) _ c.args.self.serial c.args.yard.now c.speak_at.new.yard call.new.self
-    at.has_serial c.speak_at.ensures.spoken call.ensures.noted call.ensures.room call.ensures.same call.ensures.seats
+    made_own (λ (n : ℕ). event.Started n) _ c.args.self.serial c.args.yard.now call.new.self
+    at.has_serial call.ensures.noted call.ensures.room call.ensures.same call.ensures.seats
 
 pub returns-clause-answers : goal.returns-clause-answers
 returns-clause-answers g c =
-    answered c.args.caller (event.Started c.args.self.serial) _ c.made.result
+    answered (event.Started c.args.self.serial) _ c.made.result
     (yard_roll c.args.yard.now) (yard_roll c.started.new.self) (returns-clause-makes g c).noted c.of-event.ensures c.made.ensures.its
 
 pub returns-clause-in_turn : goal.returns-clause-in_turn
-returns-clause-in_turn g c = (λ ok. subst (λ (i : ℕ). IsAt is_allowed c.args.self.serial c.args.yard.now i) c.place.ensures ((c.speak_at.ensures.passes is_allowed refl).0 (sym c.is_allowed.ensures ∙ (search rules))), λ at. refl)
+returns-clause-in_turn g c = (λ ok. subst (λ (i : ℕ). IsAt is_allowed c.args.self.serial c.args.yard.now i) c.place.ensures ((c.stage_at.ensures is_allowed refl).0 (sym c.is_allowed.ensures ∙ (search rules))), λ at. refl)
 
 pub returns-then-not-is_allowed-clause-in_turn : goal.returns-then-not-is_allowed-clause-in_turn
-returns-then-not-is_allowed-clause-in_turn g c = (λ ok. absurd (cc), λ at. let is = (c.speak_at.ensures.passes is_allowed refl).1 (subst (λ (i : ℕ). IsAt is_allowed c.args.self.serial c.args.yard.now i) (sym c.place.ensures) at) in cc)
+returns-then-not-is_allowed-clause-in_turn g c = (λ ok. absurd (cc), λ at. let is = (c.stage_at.ensures is_allowed refl).1 (subst (λ (i : ℕ). IsAt is_allowed c.args.self.serial c.args.yard.now i) (sym c.place.ensures) at) in cc)
 
 pub returns-clause-notes : goal.returns-clause-notes
 returns-clause-notes g c = (refl, (returns-clause-makes g c).noted, tt)
 
 pub returns-then-not-is_allowed-clause-notes : goal.returns-then-not-is_allowed-clause-notes
-returns-then-not-is_allowed-clause-notes g c = stays c.args.caller (yard_roll c.args.yard.now) (yard_roll c.speak_at.new.yard) c.speak_at.ensures.spoken.roll
+returns-then-not-is_allowed-clause-notes g c = stays (yard_roll c.args.yard.now)
 
 pub returns-then-not-is_allowed-clause-makes : goal.returns-then-not-is_allowed-clause-makes
-returns-then-not-is_allowed-clause-makes g c =
-    not_made c.args.caller (event.Started c.args.self.serial) c.args.yard.now c.speak_at.new.yard c.speak_at.ensures.spoken
+returns-then-not-is_allowed-clause-makes g c = not_made (event.Started c.args.self.serial) c.args.yard.now

@@ -8,7 +8,7 @@ use Rattle.whole_yard.specs.Standing.{LeadsSome, Matches, YardState}
 use Rattle.whole_yard.specs.Stepping.{begin_event, kept_after_begin, last_begun_after, lists_after_begin}
 use Rattle.whole_yard.specs.WholeYards.{whole_directory, whole_roll, whole_state}
 use Rattle.shared_site.specs.Receipts.{receipt_at}
-use Rattle.shared_site.specs.Turns.{IsLastOf}
+use Rattle.whole_yard.specs.Callers.{IsLastOf}
 use Rattle.whole_yard.proofs.Calling.{spoken_state}
 use Rattle.whole_yard.proofs.Calling.{last_of_some, may_begin_from, noted_receipt, some_counted}
 use Rattle.whole_yard.proofs.Installing.{counts_made}

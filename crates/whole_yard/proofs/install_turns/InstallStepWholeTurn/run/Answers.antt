@@ -9,7 +9,7 @@ use Rattle.whole_yard.specs.Standing.{LeadsSome, Matches, YardState}
 use Rattle.whole_yard.specs.Stepping.{GoesAsStep, event_of_step, step_event}
 use Rattle.whole_yard.specs.WholeYards.{kept_under, whole_books, whole_directory, whole_installing, whole_roll, whole_state}
 use Rattle.shared_site.specs.Receipts.{receipt_after, receipt_at}
-use Rattle.shared_site.specs.Turns.{IsLastOf, spoken_by}
+use Rattle.whole_yard.specs.Callers.{IsLastOf, spoken_by}
 use Rattle.whole_yard.proofs.Calling.{spoken_state}
 use Rattle.whole_yard.proofs.Calling.{event_if, last_of_some, noted_receipt, some_counted, spoken_kept}
 use Rattle.whole_yard.proofs.Installing.{counts_made, step_made}

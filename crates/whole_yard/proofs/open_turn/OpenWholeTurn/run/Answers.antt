@@ -5,12 +5,8 @@ use Rattle.server_events.specs.declared.event.Event.TheVariants as event
 use Rattle.server_yard.specs.Passes.{pass_bytes, pass_file}
 use Rattle.whole_yard.specs.Standing.{LeadsOpened, Matches, YardState, standing_of}
 use Rattle.whole_yard.specs.WholeYards.{whole_directory, whole_roll, whole_state}
-use Rattle.shared_site.specs.Turns.{spoken_by}
-use Rattle.shared_site.proofs.Spoken.{notes_from}
-use Rattle.whole_yard.proofs.Calling.{spoken_state}
-use Rattle.whole_yard.proofs.Calling.{same_from}
+use Rattle.whole_yard.proofs.Calling.{answered, last_of, noted_by, same_from, spoken_state}
 use Rattle.whole_yard.proofs.Counts.{one_counted}
-use Rattle.shared_site.proofs.Making.{answered, last_of}
 use Rattle.whole_yard.proofs.open_turn.OpenWholeTurn.run.Goals as goal
 
 pub returns-in-Ok-clause-missing : goal.returns-in-Ok-clause-missing
@@ -26,8 +22,8 @@ returns-in-Ok-clause-found g c = λ honest.
 pub returns-in-Ok-clause-noted : goal.returns-in-Ok-clause-noted
 returns-in-Ok-clause-noted g c =
     let e = event.Opened c.args.self.serial (is_some (pass_file c.in-Ok.pass)) in
-    notes_from e e (whole_roll c.speaker.new.self) (spoken_by c.args.caller (whole_roll c.args.yard.now)) (whole_roll c.open.new.self)
-    refl c.speaker.ensures.speaks c.in-Ok.ensures.noted
+    noted_by c.args.caller e (whole_roll c.args.yard.now) (whole_roll c.speaker.new.self) (whole_roll c.open.new.self)
+    c.speaker.ensures.speaks c.in-Ok.ensures.noted
 
 pub returns-in-Ok-clause-step : goal.returns-in-Ok-clause-step
 returns-in-Ok-clause-step g c = λ honest.
