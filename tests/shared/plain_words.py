@@ -87,9 +87,7 @@ def fault_of_words(words, folder):
     to be one."""
     options = {}
     text, code = first_fault(words, folder, options)
-    # a name that is too long is no error of the system, if its folder is there
-    is_known = text != "device fault" or not is_in_folder(options["x"], folder) or ends_in_folder(options["x"])
-    is_told = options.get("v") == "v" and (code == 111 and is_known or text == USAGE)
+    is_told = options.get("v") == "v" and (code == 111 or text == USAGE)
     return text, code, (NO_WORD if code == 100 else SYSTEM) if is_told else None
 
 
