@@ -1,4 +1,4 @@
--- What a caller gets for an event: evidence that it made it, or that it was out of turn, or why a client was not let
+-- What a turn answers of its event: evidence that it made it, or that it was out of turn, or why a client was not let
 -- in; and the receipt.
 use Rattle.std.specs.Prelude.{⊤, ◌≡◌, ◌≢◌, ◌⊎◌, ◌+◌, ◌-◌, ◌^◌, ℕ, List, Option, None, Some, Result, Ok, Err, IfOk, OnErr, length}
 use Rattle.rule_lookup.specs.Peers.{Client}

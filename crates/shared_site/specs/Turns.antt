@@ -34,7 +34,7 @@ pub record IsLast (event : Event) (roll : Roll) : Type 0 where
 abbrev pub Answers : {A L : Type 0} → (answers : ℕ → ℕ → A → ℕ → Type 0) → A → (old new : Yard L) → Type 0
 Answers answers answer old new = answers (yard_roll old).speaker (yard_books old).count answer (yard_books new).count
 
--- it is an answer that a turn may give, to some caller after some events
+-- it is an answer that a turn may give, for some speaker after some events
 pub record IsAnswer {A : Type 0} (answers : ℕ → ℕ → A → ℕ → Type 0) (answer : A) : Type 0 where
   pub who : ℕ
   pub before : ℕ

@@ -1,4 +1,4 @@
-//! What a caller gets for an event that it asked for.
+//! What a turn answers of the event that it was to make.
 ghost use Rattle.std.specs.Prelude.{◌≡◌};
 
 use rule_lookup::{Decision, Peer};
@@ -29,8 +29,8 @@ impl EventSnapshot {
     }
 }
 
-/// Evidence that a caller made an event, at a position of the history. Only `site::made` makes one, and only of an
-/// event that this caller has just made. Whoever audits makes a receipt of it.
+/// Evidence that an event was made, at a position of the history, for the yard's speaker. Only `site::made` makes one,
+/// and only of the event that was just made. Whoever audits makes a receipt of it.
 #[derive(Drop)]
 pub struct Made {
     pub(crate) caller: u64,
@@ -65,7 +65,7 @@ impl Made {
 /// Which event a caller made, and where it stands in the history. Only a `Made` becomes a receipt.
 #[derive(Drop)]
 pub struct Receipt {
-    /// The caller's number, from 1.
+    /// The caller's number, from 1; it was the speaker.
     pub caller: u64,
     /// The event's position in the whole history of the yard, from 1.
     pub at: u64,
@@ -75,7 +75,7 @@ pub struct Receipt {
     pub(crate) seal: (),
 }
 
-/// Evidence that an event was out of turn: a caller asked for it, and it did not happen. Only turns make one.
+/// Evidence that an event was out of turn: a turn was to make it, and it did not happen. Only turns make one.
 #[derive(Drop)]
 pub struct OutOfTurn {
     pub(crate) asked: EventSnapshot,
