@@ -39,7 +39,8 @@ pub enum ServerFault {
     AcceptFault,
     /// All places are retired: no program that has them could be waited for.
     NoPlaces,
-    /// A connection is alive that no thread has, and that is not retired: the server has lost it.
+    /// The server has lost a connection: one is alive that no thread has, and that is not retired; or another number of
+    /// connections had their admission than were let in.
     LostConnection,
     /// There was no memory for the server itself, or no thread or process for a first worker.
     OutOfMemory,
