@@ -4,7 +4,7 @@ pub mod Histories
 pub mod Seating
 pub mod Outcomes
 pub mod Gone
-pub mod LeavingEvents
 pub mod Living
 pub mod Running
+pub mod Noting
 pub mod Admitting

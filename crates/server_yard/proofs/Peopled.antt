@@ -9,7 +9,7 @@ use Rattle.server_events.specs.declared.event.Event.TheVariants.{Retired}
 use Rattle.server_events.specs.declared.event.Stage.{Stage}
 use Rattle.server_events.specs.declared.event.Stage.TheVariants as stage
 use Rattle.server_events.specs.declared.state.Connection.{Connection}
-use Rattle.server_events.specs.ServerState.{Effect, ServerState, lets_in, opens, decides, brings, lets_go, comes_to, fails_at, ends_all, after, count_from, effect, is_retired, may_happen, may_have, with_effect, with_stage, without, is_installations, of_installations, peer_of}
+use Rattle.server_events.specs.ServerState.{Effect, ServerState, lets_in, opens, decides, brings, lets_go, comes_to, fails_at, ends_all, after, count_from, effect, is_retired, is_started, may_happen, may_have, with_effect, with_stage, without, is_connections, is_installations, of_connections, of_installations, peer_of}
 use Rattle.server_events.proofs.Effects.{Sound, sound}
 use Rattle.server_events.proofs.Limits.{count_from-cons, count_from-with_stage, length-with_stage, one_from}
 use Rattle.server_events.proofs.Peers.{peer_of-with_stage}
@@ -183,3 +183,39 @@ not_retired stage.Opened some = refl
 not_retired (stage.Decided v) some = refl
 not_retired stage.Started some = refl
 not_retired stage.Retired some = absurd (omega (arith, some))
+
+-- the events by which a connection goes on, or goes, are events of connections
+on_own : (x : Effect) → goes_on_by x ≡ true → of_connections x ≡ true
+on_own (lets_in m peer) k = refl
+on_own (opens m there) k = refl
+on_own (decides m decision) k = refl
+on_own (brings m from to) k = refl
+on_own (lets_go m from) k = refl
+on_own (comes_to phase) k = absurd (cc)
+on_own (fails_at phase) k = absurd (cc)
+on_own ends_all k = absurd (cc)
+
+pub goes_on_own : (e : Event) → goes_on e ≡ true → is_connections e ≡ true
+goes_on_own e k = on_own (effect e) k
+
+leaves_own : (x : Effect) (n : ℕ) → leaver_by x ≡ Some n → of_connections x ≡ true
+leaves_own (lets_in m peer) n k = refl
+leaves_own (opens m there) n k = refl
+leaves_own (decides m decision) n k = refl
+leaves_own (brings m from to) n k = refl
+leaves_own (lets_go m from) n k = refl
+leaves_own (comes_to phase) n k = absurd (cc)
+leaves_own (fails_at phase) n k = absurd (cc)
+leaves_own ends_all n k = absurd (cc)
+
+pub leaver_own : (e : Event) (n : ℕ) → leaver e ≡ Some n → is_connections e ≡ true
+leaver_own e n k = leaves_own (effect e) n k
+
+-- the one stage in which its child runs
+pub started_is : (s : Option Stage) → is_started s ≡ true → s ≡ Some stage.Started
+started_is None is = absurd (cc)
+started_is (Some stage.Admitted) is = absurd (cc)
+started_is (Some stage.Opened) is = absurd (cc)
+started_is (Some (stage.Decided v)) is = absurd (cc)
+started_is (Some stage.Started) is = refl
+started_is (Some stage.Retired) is = absurd (cc)

@@ -13,7 +13,7 @@ use Rattle.server_events.specs.declared.state.Connection.{Connection}
 use Rattle.server_events.specs.ServerState.{ServerState, after, newcomer, stage_of, without, peer_of}
 use Rattle.server_events.proofs.Peers.{peer_of-push_other, peer_of-without_other, stage_of-peer_of}
 use Rattle.server_yard.specs.Seating.{GivesSeat, HasSeats, KeepsSeats, KeepsSerials, LosesOne}
-use Rattle.server_yard.specs.Rolls.{number_at, serial_at, stage_at}
+use Rattle.server_yard.specs.Rolls.{serial_at}
 use Rattle.server_yard.proofs.Histories.{Distinct, nothing}
 use Rattle.server_yard.proofs.Peopled.{NobodyMoves}
 
@@ -156,12 +156,6 @@ place_back table index ip vacant = ap (λ p. record table { places = p }) (map.s
         ∙ ap (λ (o : Option (List ℕ)). cond (eq_by_cmp nat_cmp j index) None o) (map.get-insert nat_cmp_total table.places index ip j)
         ∙ ap (λ (b : Bool). cond b None (cond b (Some ip) (map.get table.places j))) (unsigned_tied j index)
         ∙ by j (j == index) refl
-
--- the connection of a seat that has a stage
-pub seat_at : (seat : Option ℕ) (s : ServerState) (t : Stage) → stage_at seat s ≡ Some t → (n : ℕ) × (seat ≡ Some n)
-    × (stage_of n s.connections ≡ Some t) × (number_at seat ≡ n)
-seat_at None s t e = absurd (cc)
-seat_at (Some n) s t e = (n, refl, e, refl)
 
 -- a place that was given is in use
 pub used_placed : (table : PlacesOut) (index : ℕ) (ip : List ℕ) → is_used (with_place index ip table) index ≡ true

@@ -4,5 +4,5 @@ pub mod Rolls
 pub mod Seating
 pub mod Runs
 pub mod Passes
-pub mod Leavings
 pub mod Yards
+pub mod Evidence

@@ -13,10 +13,6 @@ use Rattle.server_yard.specs.declared.pass.Pass.{Pass}
 abbrev pub pass_serial : {L F : Type 0} → Pass L F → ℕ
 pass_serial pass = pass.serial
 
--- what is decided without a file
-abbrev pub pass_missing : {L F : Type 0} → Pass L F → WhenMissing
-pass_missing pass = pass.missing
-
 -- the file that was found
 abbrev pub pass_file : {L F : Type 0} → Pass L F → Option F
 pass_file pass = pass.file
@@ -30,9 +26,10 @@ abbrev pub trust_in : Bool → Bool → Option (List ℕ) → Trust
 trust_in honest sound None = Sound
 trust_in honest sound (Some bytes) = trust_of honest sound
 
--- `decide` decides so by what a pass has, for this peer, as far as what the file holds is known
-abbrev pub IsDecidedBy : {L F : Type 0} → (honest sound : Bool) → (bytes : F → List ℕ)
+-- `decide` decides so by what a pass has, for this peer, as far as what the file holds is known; `missing` is what is
+-- decided without a file
+abbrev pub IsDecidedBy : {L F : Type 0} → (missing : WhenMissing) → (honest sound : Bool) → (bytes : F → List ℕ)
     → Pass L F → Client → Decision → Type 0
-IsDecidedBy honest sound bytes pass peer decision =
+IsDecidedBy missing honest sound bytes pass peer decision =
     WhereKnown (trust_in honest sound (pass_bytes bytes pass))
-    (decision_from (option_map reading (pass_bytes bytes pass)) (pass_missing pass) peer ≡ Ok decision)
+    (decision_from (option_map reading (pass_bytes bytes pass)) missing peer ≡ Ok decision)

@@ -71,15 +71,6 @@ pub record HasNoEvents (books : Books) : Type 0 where
   pub stores : StoresNothing books
   pub no_rules : IfSome books.lists (λ all. all ≡ [])
 
--- the stage of the connection that has a seat
-abbrev pub stage_at : Option ℕ → ServerState → Option Stage
-stage_at seat server = option_and_then (λ n. stage_of n server.connections) seat
-
 -- the serial of the connection that has a seat, if it is alive
 abbrev pub serial_at : Option ℕ → ServerState → Option ℕ
 serial_at seat server = option_and_then (λ n. option_map (λ (s : Stage). n) (stage_of n server.connections)) seat
-
--- the serial that last got a seat, or 0, which is nobody's
-abbrev pub number_at : Option ℕ → ℕ
-number_at None = 0
-number_at (Some n) = n

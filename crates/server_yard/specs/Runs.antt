@@ -18,3 +18,7 @@ pub record IsRun (books : Books) (server : ServerState) (events : List Event) : 
   pub leads : server ≡ state_after (start server.limit server.per_address) events
   pub number : books.count ≡ min (length events) (2 ^ 64 - 1)
   pub stores : IfSome books.notes (λ notes. map (λ (n : Noted). n.event) notes ≡ events)
+
+-- there is a run to this state, with these books
+abbrev pub HasRunTo : Books → ServerState → Type 0
+HasRunTo books server = ∥ ((events : List Event) × IsRun books server events) ∥₁

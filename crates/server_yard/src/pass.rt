@@ -3,7 +3,6 @@ ghost use Rattle.std.specs.Prelude.{◌≡◌, option_copied};
 
 use cdb_files::CdbFile;
 use dir_calls::RulesFile;
-use rule_lookup::WhenMissing;
 use std::marker::PhantomData;
 use std::sync::ledger::Ledger;
 
@@ -13,12 +12,11 @@ use std::sync::ledger::Ledger;
 pub struct Pass<L: Ledger, F: RulesFile + Drop> {
     pub(crate) serial: u64,
     pub(crate) file: Option<CdbFile<F>>,
-    pub(crate) missing: WhenMissing,
     pub(crate) yard: PhantomData<L>,
 }
 
 impl<L: Ledger, F: RulesFile + Drop> Pass<L, F> {
-    ghost use Rattle.server_yard.specs.Passes.{pass_file, pass_missing, pass_serial};
+    ghost use Rattle.server_yard.specs.Passes.{pass_file, pass_serial};
 
     /// The file that decides, if there is one.
     pub fn source(&self) -> Option<&CdbFile<F>>
@@ -28,13 +26,6 @@ impl<L: Ledger, F: RulesFile + Drop> Pass<L, F> {
             Some(file) => Some(file),
             None => None,
         }
-    }
-
-    /// What is decided if there is no file.
-    pub fn missing(&self) -> WhenMissing
-        ensures { result ≡ pass_missing self.now }
-    {
-        self.missing
     }
 
     /// The serial of the connection that opened it.

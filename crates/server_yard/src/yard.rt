@@ -1,31 +1,33 @@
 //! The connections of a server with their places, and the journal of all events.
-ghost use Rattle.std.specs.Prelude.{◌≡◌, ◌≢◌, ◌<◌, ◌≤◌, ◌+◌, ◌-◌, ◌^◌, ◌↔◌, ℕ, List, true, false, Err, Some, None, IfOk, IfErr, IfSome, IsTrue, OnOk, OnErr, is_some, length, option_map};
+ghost use Rattle.std.specs.Prelude.{◌≡◌, ◌≢◌, ◌<◌, ◌≤◌, ◌+◌, ◌-◌, ◌^◌, ◌↔◌, ◌++◌, ◌∷◌, [], ℕ, List, true, false, Err, Some, None, IfOk, IfErr, IsOk, IsTrue, OnOk, OnErr, is_some, length};
 ghost use Rattle.std.specs.List.{count_by};
 ghost use Rattle.std.specs.BTreeMap.{get};
 ghost use Rattle.std.specs.Ordering.{nat_cmp};
 ghost use Rattle.child_jobs.specs.Runs.{place_of};
 ghost use Rattle.child_jobs.specs.PlacesOut.{is_used, live_at, live_of, OneMoreAt, RefusesLimits, with_place};
 ghost use Rattle.server_events.specs.JournalParts.{books_of_journal, has_room};
-ghost use Rattle.server_events.specs.ServerState.{after, count_from, is_allowed, is_retired, may_admit, may_happen, stage_of, peer_of};
+ghost use Rattle.server_events.specs.ServerState.{after, count_from, is_connections, is_retired, may_admit, may_happen, stage_of, peer_of};
+ghost use Rattle.server_events.specs.declared.event.Event.{Event};
 ghost use Rattle.server_events.specs.declared.event.Event.TheVariants.{Admitted, Decided, Opened, Retired, Started};
-ghost use Rattle.server_events.specs.declared.event.Stage.TheVariants as stage;
-ghost use Rattle.server_yard.specs.Leavings.{leaving_event, may_leave};
-ghost use Rattle.server_yard.specs.Passes.{IsDecidedBy, pass_file, pass_missing, pass_serial};
-ghost use Rattle.server_yard.specs.Rolls.{CountsStored, HasHistory, HasNoEvents, IsQuiet, Lived, Notes, number_at};
+ghost use Rattle.server_yard.specs.Passes.{IsDecidedBy, pass_file, pass_serial};
+ghost use Rattle.server_yard.specs.Rolls.{CountsStored, HasHistory, HasNoEvents, IsQuiet, Lived, Notes, Roll};
 ghost use Rattle.server_yard.specs.Rooms.{KeepsRoom, events_left, room_needed, spare_events};
+ghost use Rattle.server_yard.specs.Runs.{HasRunTo, IsRun};
 ghost use Rattle.server_yard.specs.Seating.{GivesSeat, HasSeats, IsAddressFull, IsSpent, KeepsSeats, KeepsSerials, LosesOne, goes_on, leaver};
 ghost use Rattle.server_yard.specs.declared.yard.AdmitFault.TheVariants.{Full, FullForAddress, OutOfMemory, Spent};
 
-use crate::leaving::Leaving;
+use crate::evidence::{Made, NoNumbers, OutOfTurn};
 use crate::pass::Pass;
+use crate::places::Places;
 use cdb_files::CdbFile;
 use child_jobs::{Job, Place, PlaceTable, Running, TableFault};
 use dir_calls::RulesFile;
-use rule_lookup::{Decision, Peer, WhenMissing};
+use rule_lookup::{Decision, Peer};
 use server_events::{Event, Journal, Stage, State, is_same_peer};
 use std::alloc::{AllocError, Global};
 use std::collections::BTreeMap;
 use std::marker::PhantomData;
+use std::snapshot::Snapshot;
 use std::sync::ledger::{Blank, Ledger};
 
 /// Why a connection isn't let in. Nothing changed.
@@ -33,8 +35,8 @@ use std::sync::ledger::{Blank, Ledger};
 pub enum AdmitFault {
     /// As many connections are alive as may be, retired ones counted.
     Full,
-    /// The last serial, 2^64 - 1, was given.
-    Spent,
+    /// The last number of an event, or the last serial, was given: 2^64 - 1.
+    Spent(NoNumbers),
     /// As many connections of its address are alive as may be, retired ones counted.
     FullForAddress,
     /// There was no memory.
@@ -44,21 +46,22 @@ pub enum AdmitFault {
 // How many events a connection may have, the first among them.
 const EVENTS: usize = 5;
 
-/// The connections of a server, each with its place, and the journal of all events. It also says what is decided where
-/// no rules file stands.
+/// The connections of a server, each with its place, and the journal of all events.
 ///
-/// Each call that is an event is one event of the table (`noted`), and no call has a premise that the yard itself could
-/// lose. A place, a running child or a pass that a call takes has the yard's ledger, by its type. `stage_of`, `stage`
-/// and `is_peer` tell whether its event may happen. Nothing here waits for anybody, or calls a directory.
-pub struct Yard<L: Ledger> {
+/// Each call that is an event tests whether it is in turn: the table of events allows it now, and the place or the peer
+/// is the connection's. If so, the call makes the event, and answers the evidence of it. Otherwise nothing changes. A
+/// place, a running child or a pass that a call takes has the yard's ledger, by its type. Nothing here waits for
+/// anybody or calls a directory.
+pub struct Yard<L: Places> {
     pub(crate) state: State,
     table: PlaceTable<L>,
     // for each index the serial of the connection that last got its place
     seats: BTreeMap<usize, u64>,
     pub(crate) journal: Journal,
     pub(crate) speaker: u64,
-    missing: WhenMissing,
     pub ghost history: { HasHistory (books_of_journal journal) state },
+    // without installations its events are those of connections
+    pub ghost ran: { L.installs ≡ false → HasRunTo (books_of_journal journal) state },
     pub ghost small: { state.limit < 2 ^ 64 },
     pub ghost live: { live_of table ≡ length state.connections },
     pub ghost at_each_address: { (ip : List ℕ) → live_at ip table ≡ count_from ip state.connections },
@@ -71,7 +74,7 @@ pub struct Yard<L: Ledger> {
 
 // Written out, the drop of all that a yard has is proved here alone. A derived one is proved in each crate above that
 // lets a yard go, with those of all its parts.
-impl<L: Ledger> Drop for Yard<L> {
+impl<L: Places> Drop for Yard<L> {
     fn drop(self) {
         let Yard {
             state,
@@ -79,7 +82,6 @@ impl<L: Ledger> Drop for Yard<L> {
             seats,
             journal,
             speaker: _,
-            missing: _,
         } = self;
         drop(state);
         drop(table);
@@ -88,20 +90,20 @@ impl<L: Ledger> Drop for Yard<L> {
     }
 }
 
-impl<L: Ledger> Yard<L> {
-    ghost use Rattle.server_yard.specs.Yards.{HasRun, IsMade, IsSameBeside, number_of, serial_of, stage_of_place, yard_books, yard_journal, yard_missing, yard_roll, yard_seat, yard_server};
+impl<L: Places> Yard<L> {
+    ghost use Rattle.server_yard.specs.Evidence.{IsNoted, Makes, Refuses, evidence_of, no_numbers};
+    ghost use Rattle.server_yard.specs.Yards.{HasRun, IsInTurn, IsMade, IsSameBeside, MayBeDecided, yard_books, yard_journal, yard_roll, yard_seat, yard_server};
 
     /// A yard without connections.
     ///
     /// At most `limit` connections are alive at once, and at most `per_address` from one address. `blank` has as many
-    /// parts as the limit says, and the journal has no event. `missing` is what is decided where no rules file stands.
+    /// parts as the limit says, and the journal has no event.
     ///
     /// # Errors
     /// `ZeroLimit` if the limit is 0; otherwise `ZeroAddressLimit` if the limit per address is 0.
     pub fn new(
         alloc: Global,
         blank: Blank,
-        missing: WhenMissing,
         limit: u64,
         per_address: u64,
         journal: Journal,
@@ -109,7 +111,7 @@ impl<L: Ledger> Yard<L> {
         requires name { blank.name ≡ L.name }
         requires parts { (blank.parts ≡ L.parts) × (blank.parts ≡ limit) }
         requires journal { HasNoEvents (books_of_journal journal) }
-        ensures made { IfOk result (IsMade missing limit per_address journal) }
+        ensures made { IfOk result (IsMade limit per_address journal) }
         ensures refused { IfErr result (RefusesLimits limit per_address) }
     {
         let table = PlaceTable::with_address_limit(alloc, blank, limit, per_address)?;
@@ -119,7 +121,6 @@ impl<L: Ledger> Yard<L> {
             seats: BTreeMap::new(alloc),
             journal,
             speaker: 0,
-            missing,
         })
     }
 
@@ -135,13 +136,6 @@ impl<L: Ledger> Yard<L> {
         ensures { result ≡ (yard_server self.now).limit }
     {
         self.table.limit()
-    }
-
-    /// What is decided if no rules file stands. `opened` gives it to its pass.
-    pub fn missing(&self) -> WhenMissing
-        ensures { result ≡ yard_missing self.now }
-    {
-        self.missing
     }
 
     /// The journal.
@@ -164,46 +158,11 @@ impl<L: Ledger> Yard<L> {
         ensures stored { CountsStored (yard_books self.now) }
     {}
 
-    /// A law: a yard without an event has a run, which is empty.
-    pub fn unbegun(&self)
-        ensures { (yard_books self.now).count ≡ 0 → HasRun self.now }
+    /// A law: the events of a yard that notes no installations are a run.
+    pub fn ran(&self)
+        requires serves { L.installs ≡ false }
+        ensures { HasRun self.now }
     {}
-
-    /// Says who makes the events that follow: a number from 1, or 0 for nobody, as at first. Nothing else changes.
-    pub fn speaker(&mut self, speaker: u64)
-        ensures speaks { yard_roll self.new ≡ record (yard_roll self.old) { speaker = speaker } }
-        ensures journal { yard_journal self.new ≡ yard_journal self.old }
-        ensures same { IsSameBeside self.old self.new }
-        ensures seats { KeepsSeats (yard_seat self.old) (yard_seat self.new) }
-    {
-        self.speaker = speaker;
-    }
-
-    /// Who makes them: 0 for nobody.
-    pub fn speaking(&self) -> u64
-        ensures { result ≡ (yard_roll self.now).speaker }
-    {
-        self.speaker
-    }
-
-    // The serial of the connection that last got the place of an index, or 0.
-    fn number(&self, index: usize) -> u64
-        ensures { result ≡ number_at (yard_seat self.now index) }
-    {
-        self.seats.get(&index).copied().unwrap_or(0)
-    }
-
-    /// The serial and the stage of the connection that has a place, if it is alive. By this a caller tests what the
-    /// calls that take a place require.
-    pub fn stage_of(&self, place: &Place<L>) -> Option<(u64, Stage)>
-        ensures serial { option_map (λ r. r.0) result ≡ serial_of self.now place.now }
-        ensures stage { option_map (λ r. r.1) result ≡ stage_of_place self.now place.now }
-        ensures number { IfSome result (λ r. r.0 ≡ number_of self.now place.now) }
-    {
-        let serial = *self.seats.get(&place.index())?;
-        let stage = self.state.stage(serial)?;
-        Some((serial, stage))
-    }
 
     /// The stage of a connection that is alive.
     pub fn stage(&self, serial: u64) -> Option<Stage>
@@ -212,8 +171,15 @@ impl<L: Ledger> Yard<L> {
         self.state.stage(serial)
     }
 
-    /// Whether a peer is the other end of a connection that is alive.
-    pub fn is_peer(&self, serial: u64, peer: &Peer) -> bool
+    // Whether the place of an index was given to the connection with this serial, and this event may happen.
+    fn is_in_turn(&self, index: usize, serial: u64, event: &Event) -> bool
+        ensures { IsTrue result ↔ IsInTurn index serial event.now self.now }
+    {
+        self.seats.get(&index) == Some(&serial) && self.state.may_happen(event)
+    }
+
+    // Whether a peer is the other end of a connection that is alive.
+    fn is_peer(&self, serial: u64, peer: &Peer) -> bool
         ensures { IsTrue result ↔ (peer_of serial (yard_server self.now).connections ≡ Some peer.now) }
     {
         match self.state.peer(serial) {
@@ -227,14 +193,19 @@ impl<L: Ledger> Yard<L> {
     /// All room that its events will take is made now. So none of them can want for memory.
     ///
     /// # Errors
-    /// `Full` if as many connections are alive as may be; otherwise `Spent` if the last serial was given; otherwise
-    /// `FullForAddress` if as many from its address are alive as may be; otherwise `OutOfMemory`. Nothing changed.
-    pub fn admit(&mut self, peer: &Peer) -> Result<(u64, Place<L>), AdmitFault>
-        ensures full { (result ≡ Err Full) ↔
-            (length (yard_server self.old).connections ≡ (yard_server self.old).limit) }
-        ensures spent { (result ≡ Err Spent) ↔ IsSpent (yard_server self.old) }
-        ensures full_for_address { (result ≡ Err FullForAddress) ↔ IsAddressFull peer.now.ip (yard_server self.old) }
-        ensures noted { IfOk result (λ r. Notes (Admitted r.0 peer.now) (yard_roll self.old) (yard_roll self.new)) }
+    /// `Spent` if the last number of an event was given, or that of a connection while another one may be alive;
+    /// otherwise `Full` if as many are alive as may be, or `FullForAddress` if as many from its address are; otherwise
+    /// `OutOfMemory`. Nothing changed.
+    pub fn admit(&mut self, peer: &Peer) -> Result<(u64, Place<L>, Made), AdmitFault>
+        ensures spent { (result ≡ Err (Spent no_numbers)) ↔ Refuses
+            (Spent no_numbers) peer.now.ip (yard_books self.old).count (yard_server self.old) }
+        ensures full { (result ≡ Err Full) ↔ Refuses
+            Full peer.now.ip (yard_books self.old).count (yard_server self.old) }
+        ensures full_for_address { (result ≡ Err FullForAddress) ↔ Refuses
+            FullForAddress peer.now.ip (yard_books self.old).count (yard_server self.old) }
+        ensures made { IfOk result (λ r.
+            IsNoted (Admitted r.0 peer.now) r.2 (yard_roll self.old) (yard_roll self.new)) }
+        ensures next { OnOk result ((yard_books self.new).count ≡ (yard_books self.old).count + 1) }
         ensures seat { IfOk result (λ r. GivesSeat r.1 r.0 (yard_seat self.old) (yard_seat self.new)) }
         ensures refused { OnErr result (IsQuiet (yard_roll self.old) (yard_roll self.new)) }
         ensures room { KeepsRoom (yard_roll self.old) (yard_roll self.new) }
@@ -242,30 +213,33 @@ impl<L: Ledger> Yard<L> {
         ensures same_seats { OnErr result
             (KeepsSerials (yard_server self.old) (yard_seat self.old) (yard_seat self.new)) }
     {
-        let serial = match self.next_serial(peer) {
-            Ok(serial) => serial,
-            Err(fault) => return Err(fault),
-        };
+        let serial = self.next_serial(peer)?;
         match self.take_in(peer, serial) {
-            Ok(place) => Ok((serial, place)),
+            Ok((place, made)) => Ok((serial, place, made)),
             Err(_) => Err(AdmitFault::OutOfMemory),
         }
     }
 
     // The serial of a connection, if it may be let in.
     fn next_serial(&self, peer: &Peer) -> Result<u64, AdmitFault>
-        ensures full { (result ≡ Err Full) ↔
-            (length (yard_server self.now).connections ≡ (yard_server self.now).limit) }
-        ensures spent { (result ≡ Err Spent) ↔ IsSpent (yard_server self.now) }
-        ensures full_for_address { (result ≡ Err FullForAddress) ↔ IsAddressFull peer.now.ip (yard_server self.now) }
+        ensures spent { (result ≡ Err (Spent no_numbers)) ↔ Refuses
+            (Spent no_numbers) peer.now.ip (yard_books self.now).count (yard_server self.now) }
+        ensures full { (result ≡ Err Full) ↔ Refuses
+            Full peer.now.ip (yard_books self.now).count (yard_server self.now) }
+        ensures full_for_address { (result ≡ Err FullForAddress) ↔ Refuses
+            FullForAddress peer.now.ip (yard_books self.now).count (yard_server self.now) }
         ensures memory { result ≢ Err OutOfMemory }
+        ensures next { OnOk result ((yard_books self.now).count ≢ 2 ^ 64 - 1) }
         ensures may { IfOk result (λ serial. may_admit (yard_server self.now) serial peer.now ≡ true) }
     {
+        if self.journal.events() == u64::MAX {
+            return Err(AdmitFault::Spent(NoNumbers::of(self)));
+        }
         if self.table.live() == self.table.limit() {
             return Err(AdmitFault::Full);
         }
         let Some(serial) = self.state.last().checked_add(1) else {
-            return Err(AdmitFault::Spent);
+            return Err(AdmitFault::Spent(NoNumbers::of(self)));
         };
         if self.state.live_from(peer.ip()) == self.table.address_limit() {
             return Err(AdmitFault::FullForAddress);
@@ -274,10 +248,11 @@ impl<L: Ledger> Yard<L> {
     }
 
     // Lets in a connection that may be let in, with room for all of its events.
-    fn take_in(&mut self, peer: &Peer, serial: u64) -> Result<Place<L>, AllocError>
+    fn take_in(&mut self, peer: &Peer, serial: u64) -> Result<(Place<L>, Made), AllocError>
         requires may { may_admit (yard_server self.old) serial peer.now ≡ true }
-        ensures noted { OnOk result (Notes (Admitted serial peer.now) (yard_roll self.old) (yard_roll self.new)) }
-        ensures seat { IfOk result (λ place. GivesSeat place serial (yard_seat self.old) (yard_seat self.new)) }
+        ensures made { IfOk result (λ r.
+            IsNoted (Admitted serial peer.now) r.1 (yard_roll self.old) (yard_roll self.new)) }
+        ensures seat { IfOk result (λ r. GivesSeat r.0 serial (yard_seat self.old) (yard_seat self.new)) }
         ensures refused { OnErr result (IsQuiet (yard_roll self.old) (yard_roll self.new)) }
         ensures room { KeepsRoom (yard_roll self.old) (yard_roll self.new) }
         ensures same { IsSameBeside self.old self.new }
@@ -288,6 +263,7 @@ impl<L: Ledger> Yard<L> {
             serial,
             peer: peer.copy()?,
         };
+        let shown = Snapshot::of(&event);
         self.journal.reserve(EVENTS)?;
         match give_place(
             &mut self.table,
@@ -299,7 +275,7 @@ impl<L: Ledger> Yard<L> {
         ) {
             Ok(place) => {
                 self.journal.note(event, self.speaker);
-                Ok(place)
+                Ok((place, Made::of(self, shown)))
             }
             Err(refused) => {
                 self.journal.release(EVENTS);
@@ -308,94 +284,113 @@ impl<L: Ledger> Yard<L> {
         }
     }
 
-    // Notes an event by which a connection goes on. It keeps its place.
-    fn advance(&mut self, event: Event)
+    // Makes an event by which a connection goes on and keeps its place, if it may happen. It takes no memory.
+    fn go_on(&mut self, event: Event) -> Result<Made, OutOfTurn>
         requires kind { goes_on event ≡ true }
-        requires may { may_happen (yard_server self.old) event ≡ true }
-        ensures noted { Notes event (yard_roll self.old) (yard_roll self.new) }
-        ensures room { KeepsRoom (yard_roll self.old) (yard_roll self.new) }
-        ensures same { IsSameBeside self.old self.new }
-        ensures seats { KeepsSeats (yard_seat self.old) (yard_seat self.new) }
+        ensures in_turn { IsOk result ↔ (may_happen (yard_server self.old) event ≡ true) }
+        ensures makes { Makes event result self.old self.new }
     {
+        if !self.state.may_happen(&event) {
+            return Err(OutOfTurn::of(event));
+        }
+        let shown = Snapshot::of(&event);
         let Ok(()) = self.state.apply(&event) else {
             unreachable!()
         };
         self.journal.note(event, self.speaker);
+        Ok(Made::of(self, shown))
     }
 
-    /// Notes that a connection which was let in has opened the rules, and has found this file, or none.
+    /// A connection that was let in has opened the rules, and has found this file, or none. Its pass has what was
+    /// found, and keeps it through all later calls. It takes no memory.
     ///
-    /// Its pass has what was found, and keeps it through all later calls. No memory is taken.
-    pub fn opened<F: RulesFile + Drop>(&mut self, serial: u64, file: Option<F>) -> Pass<L, F>
-        requires admitted { stage_of serial (yard_server self.old).connections ≡ Some stage.Admitted }
-        ensures its { pass_serial result ≡ serial }
-        ensures missing { pass_missing result ≡ yard_missing self.old }
-        ensures found { pass_file result ≡ file }
-        ensures noted { Notes (Opened serial (is_some (pass_file result))) (yard_roll self.old) (yard_roll self.new) }
-        ensures room { KeepsRoom (yard_roll self.old) (yard_roll self.new) }
-        ensures same { IsSameBeside self.old self.new }
-        ensures seats { KeepsSeats (yard_seat self.old) (yard_seat self.new) }
+    /// # Errors
+    /// The event is out of turn. Nothing changed, and the file is dropped.
+    pub fn opened<F: RulesFile + Drop>(
+        &mut self,
+        serial: u64,
+        file: Option<F>,
+    ) -> Result<(Pass<L, F>, Made), OutOfTurn>
+        ensures its { IfOk result (λ r. pass_serial r.0 ≡ serial) }
+        ensures found { IfOk result (λ r. pass_file r.0 ≡ file) }
+        ensures in_turn { IsOk result ↔ (may_happen (yard_server self.old) (Opened serial (is_some file)) ≡ true) }
+        ensures makes { Makes (Opened serial (is_some file)) (evidence_of result) self.old self.new }
     {
-        let missing = self.missing;
-        self.advance(Event::Opened {
-            serial,
-            there: file.is_some(),
-        });
-        Pass {
-            serial,
-            file: file.map(CdbFile::new),
-            missing,
-            yard: PhantomData,
+        let there = file.is_some();
+        match self.go_on(Event::Opened { serial, there }) {
+            Ok(made) => {
+                let file = file.map(CdbFile::new);
+                let yard = PhantomData;
+                Ok((Pass { serial, file, yard }, made))
+            }
+            Err(refusal) => {
+                drop(file);
+                Err(refusal)
+            }
         }
     }
 
-    /// Notes that a connection was decided, as `decide` decides by the pass that it opened. It takes no memory.
+    /// A connection was decided, as `decide` decides by the pass that it opened. It takes no memory.
+    ///
+    /// # Errors
+    /// The event is out of turn, or the peer is not the connection's. Nothing changed.
     pub fn decided<F: RulesFile + Drop>(
         &mut self,
-        pass: Pass<L, F>,
+        pass: &Pass<L, F>,
         peer: &Peer,
         decision: Decision,
-    )
-        requires opened { stage_of (pass_serial pass) (yard_server self.old).connections ≡ Some stage.Opened }
-        requires missing { pass_missing pass ≡ yard_missing self.old }
-        requires peer { peer_of (pass_serial pass) (yard_server self.old).connections ≡ Some peer.now }
-        requires decides { IsDecidedBy F.honest F.sound F.bytes pass peer.now decision }
-        ensures noted { Notes (Decided (pass_serial pass) decision) (yard_roll self.old) (yard_roll self.new) }
-        ensures room { KeepsRoom (yard_roll self.old) (yard_roll self.new) }
-        ensures same { IsSameBeside self.old self.new }
-        ensures seats { KeepsSeats (yard_seat self.old) (yard_seat self.new) }
+    ) -> Result<Made, OutOfTurn>
+        requires decides { IsDecidedBy L.missing F.honest F.sound F.bytes pass.now peer.now decision }
+        ensures in_turn { IsOk result ↔ MayBeDecided pass.now peer.now decision self.old }
+        ensures makes { Makes (Decided (pass_serial pass.now) decision) result self.old self.new }
     {
-        self.advance(Event::Decided {
-            serial: pass.serial,
-            decision,
-        });
+        let serial = pass.serial;
+        let event = Event::Decided { serial, decision };
+        if self.is_peer(serial, peer) {
+            self.go_on(event)
+        } else {
+            Err(OutOfTurn::of(event))
+        }
     }
 
-    /// Notes that the child of an allowed connection runs, at its place. It takes no memory.
-    pub fn started<C: Job>(&mut self, running: &Running<L, C>)
-        requires allowed { is_allowed (stage_of_place self.old (place_of running.now)) ≡ true }
-        ensures noted { Notes
-            (Started (number_of self.old (place_of running.now))) (yard_roll self.old) (yard_roll self.new) }
-        ensures room { KeepsRoom (yard_roll self.old) (yard_roll self.new) }
-        ensures same { IsSameBeside self.old self.new }
-        ensures seats { KeepsSeats (yard_seat self.old) (yard_seat self.new) }
+    /// The child of an allowed connection runs, at its place. It takes no memory.
+    ///
+    /// # Errors
+    /// The event is out of turn, or the place is not the connection's. Nothing changed.
+    pub fn started<C: Job>(
+        &mut self,
+        serial: u64,
+        running: &Running<L, C>,
+    ) -> Result<Made, OutOfTurn>
+        ensures in_turn { IsOk result ↔ IsInTurn (place_of running.now) serial (Started serial) self.old }
+        ensures makes { Makes (Started serial) result self.old self.new }
     {
-        let serial = self.number(running.place().index());
-        self.advance(Event::Started { serial });
+        let event = Event::Started { serial };
+        if self.is_in_turn(running.place().index(), serial, &event) {
+            self.go_on(event)
+        } else {
+            Err(OutOfTurn::of(event))
+        }
     }
 
-    /// Notes that a connection has gone so. Its place is free. It takes no memory.
-    pub fn left(&mut self, place: Place<L>, leaving: Leaving)
-        requires may { may_leave leaving (stage_of_place self.old place) ≡ true }
-        ensures noted { Notes
-            (leaving_event leaving (number_of self.old place)) (yard_roll self.old) (yard_roll self.new) }
-        ensures room { KeepsRoom (yard_roll self.old) (yard_roll self.new) }
-        ensures same { IsSameBeside self.old self.new }
-        ensures seats { KeepsSeats (yard_seat self.old) (yard_seat self.new) }
-        ensures gone { stage_of (number_of self.old place) (yard_server self.new).connections ≡ None }
+    /// A connection has gone by this event, and its place is free. It takes no memory.
+    ///
+    /// # Errors
+    /// The event is out of turn, or the place is not the connection's. Nothing changed: the place stays counted for
+    /// good.
+    pub fn left(&mut self, serial: u64, place: Place<L>, event: Event) -> Result<Made, OutOfTurn>
+        requires goes { leaver event ≡ Some serial }
+        ensures in_turn { IsOk result ↔ IsInTurn place serial event self.old }
+        ensures makes { Makes event result self.old self.new }
+        ensures gone { OnOk result (stage_of serial (yard_server self.new).connections ≡ None) }
     {
-        let serial = self.number(place.index());
-        self.leave(place, serial, leaving.event(serial));
+        if !self.is_in_turn(place.index(), serial, &event) {
+            place.strand();
+            return Err(OutOfTurn::of(event));
+        }
+        let shown = Snapshot::of(&event);
+        self.leave(place, serial, event);
+        Ok(Made::of(self, shown))
     }
 
     // How many events a connection may still have after its next.
@@ -428,25 +423,39 @@ impl<L: Ledger> Yard<L> {
         self.journal.release(spare);
     }
 
-    /// Notes that the child of a connection could not be waited for. It is abandoned, and its place stays counted for
-    /// good. It takes no memory.
-    pub fn retired<C: Job>(&mut self, running: Running<L, C>)
-        requires started { stage_of_place self.old (place_of running) ≡ Some stage.Started }
-        ensures noted { Notes
-            (Retired (number_of self.old (place_of running))) (yard_roll self.old) (yard_roll self.new) }
-        ensures room { KeepsRoom (yard_roll self.old) (yard_roll self.new) }
-        ensures same { IsSameBeside self.old self.new }
-        ensures seats { KeepsSeats (yard_seat self.old) (yard_seat self.new) }
+    /// The child of a connection could not be waited for. In turn or not, it is abandoned, and its place stays counted
+    /// for good. It takes no memory.
+    ///
+    /// # Errors
+    /// The event is out of turn, or the place is not the connection's. Nothing changed.
+    pub fn retired<C: Job>(
+        &mut self,
+        serial: u64,
+        running: Running<L, C>,
+    ) -> Result<Made, OutOfTurn>
+        ensures in_turn { IsOk result ↔ IsInTurn (place_of running) serial (Retired serial) self.old }
+        ensures makes { Makes (Retired serial) result self.old self.new }
     {
-        let serial = self.number(running.place().index());
         let event = Event::Retired { serial };
+        if !self.is_in_turn(running.place().index(), serial, &event) {
+            running.strand();
+            return Err(OutOfTurn::of(event));
+        }
+        let shown = Snapshot::of(&event);
         running.retire(&mut self.table);
         let Ok(()) = self.state.apply(&event) else {
             unreachable!()
         };
         self.journal.note(event, self.speaker);
+        Ok(Made::of(self, shown))
     }
 }
+
+/// A law: a run goes on by each event of a connection that is noted.
+pub fn runs_on()
+    ensures { (old new : Roll) (event : Event) (events : List Event) → is_connections event ≡ true
+        → Notes event old new → IsRun old.books old.server events → IsRun new.books new.server (events ++ event ∷ []) }
+{}
 
 // How many events a connection may still have.
 fn events_left(stage: Stage) -> usize

@@ -1,22 +1,20 @@
--- What was asked of a site.
-use Rattle.std.specs.Prelude.{◌≡◌, ℕ, Result, Ok, Err}
-use Rattle.std.proofs.Common.{ap}
+-- What a yard was asked for.
+use Rattle.std.proofs.Common.{subst, sym}
+use Rattle.std.specs.Prelude.{◌≡◌, Result, Ok, Err}
 use Rattle.server_events.specs.declared.event.Event.{Event}
-use Rattle.shared_site.specs.Receipts.{MakesOrNot, made_event, receipt_after, receipt_of}
-use Rattle.shared_site.specs.Turns.{IsAnswer}
-use Rattle.shared_site.specs.declared.receipt.Made.{Made}
-use Rattle.shared_site.specs.declared.receipt.OutOfTurn.{OutOfTurn}
-use Rattle.shared_site.specs.declared.receipt.Receipt.{Receipt}
-use Rattle.tcp_service.specs.Lives.{asked}
+use Rattle.server_log.specs.declared.told.Told.{Told}
+use Rattle.server_yard.specs.Evidence.{Makes, asked_event}
+use Rattle.server_yard.specs.declared.evidence.Made.{Made}
+use Rattle.server_yard.specs.declared.evidence.OutOfTurn.{OutOfTurn}
+use Rattle.server_yard.specs.declared.yard.Yard.{Yard}
+use Rattle.tcp_service.specs.Reports.{Tells}
 
-by_cases : (r : Result Made OutOfTurn) (event : Event) (who before after : ℕ) → MakesOrNot event who before r after → asked r ≡ event
-by_cases (Ok made) event who before after its = ap (λ (r : Receipt). r.event) its.0
-by_cases (Err refusal) event who before after its = its.0
+-- in turn or not, the yard was asked for this event
+pub asked_for : {L : Type 0} {p : _} (r : Result Made OutOfTurn) (event : Event) (old new : Yard L p) → Makes event r old new → asked_event r ≡ event
+asked_for (Ok made) event old new makes = makes.made.its
+asked_for (Err refusal) event old new makes = makes.out.0
 
--- in turn or not, the site was asked for this event
-pub asked_for : (r : Result Made OutOfTurn) (event : Event) → IsAnswer (MakesOrNot event) r → asked r ≡ event
-asked_for r event answer = by_cases r event answer.who answer.before answer.after answer.answered
-
--- the event that was made is the one that the answer tells
-pub own_came : (made : Made) (event : Event) (who before : ℕ) → receipt_of made ≡ receipt_after before who event → made_event made ≡ event
-own_came made event who before is = ap (λ (r : Receipt). r.event) is
+-- what tells the event that a yard was asked for tells what it answered
+pub told_as : {L : Type 0} {p : _} (told : Told) (r : Result Made OutOfTurn) (event : Event) (old new : Yard L p) → Makes event r old new
+    → Tells told event → Tells told (asked_event r)
+told_as told r event old new makes tells = subst (Tells told) (sym (asked_for r event old new makes)) tells

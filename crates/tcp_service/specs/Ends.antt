@@ -2,27 +2,26 @@
 use Rattle.std.specs.Prelude.{Option, option_map}
 use Rattle.std.specs.declared.snapshot.Snapshot.{Snapshot}
 use Rattle.server_events.specs.declared.event.Event.{Event}
-use Rattle.shared_site.specs.Receipts.{made_event}
-use Rattle.shared_site.specs.declared.receipt.Made.{Made}
-use Rattle.tcp_service.specs.Lives.{asked}
+use Rattle.tcp_service.specs.Reports.{reported_event}
+use Rattle.tcp_service.specs.declared.reporting.Reported.{Reported}
 use Rattle.tcp_service.specs.declared.telling.Begun.{Begun}
 use Rattle.tcp_service.specs.declared.telling.Noted.{Noted}
 use Rattle.tcp_service.specs.declared.telling.Over.{Over}
 
 -- the event that notes a decision
 abbrev pub noted_event : Noted → Event
-noted_event noted = made_event noted.made
+noted_event noted = reported_event noted.decision
 
 -- of a connection whose program runs: the event that notes its decision, and the event that was asked for last
 abbrev pub begun_decided : Begun → Event
-begun_decided begun = made_event begun.decided.value
+begun_decided begun = reported_event begun.decided.value
 
 abbrev pub begun_last : Begun → Event
-begun_last begun = asked begun.last.value
+begun_last begun = reported_event begun.last.value
 
 -- of a connection that is over: the event that notes its decision, if it ended by that, and the event that ended it
 abbrev pub over_decided : Over → Option Event
-over_decided over = option_map (λ (made : Snapshot Made). made_event made.value) over.decided
+over_decided over = option_map (λ (decision : Snapshot Reported). reported_event decision.value) over.decided
 
 abbrev pub over_end : Over → Event
-over_end over = asked over.last.value
+over_end over = reported_event over.last.value

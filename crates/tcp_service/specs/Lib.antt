@@ -4,4 +4,5 @@ pub mod Ends
 pub mod Greetings
 pub mod Lives
 pub mod Openings
+pub mod Reports
 pub mod Servings

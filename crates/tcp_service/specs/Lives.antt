@@ -5,19 +5,13 @@ use Rattle.rule_lookup.specs.Peers.{Client}
 use Rattle.server_events.specs.declared.event.Event.{Event}
 use Rattle.server_events.specs.declared.event.Event.TheVariants.{Admitted, Ended, Retired}
 use Rattle.server_yard.specs.Seating.{leaver}
-use Rattle.shared_site.specs.Receipts.{made_event, refused_event}
-use Rattle.shared_site.specs.declared.receipt.Made.{Made}
-use Rattle.shared_site.specs.declared.receipt.OutOfTurn.{OutOfTurn}
 use Rattle.tcp_connections.specs.Rounds.{AllFail, EndsAs, FailsToWait, Kills, OneEnds, rounds}
-
--- the event that a site was asked for: it made it, or found it out of turn
-abbrev pub asked : Result Made OutOfTurn → Event
-asked (Ok made) = made_event made
-asked (Err refusal) = refused_event refusal
+use Rattle.tcp_service.specs.Reports.{reported_event}
+use Rattle.tcp_service.specs.declared.reporting.Reported.{Reported}
 
 -- where a client is let in, the event that was made is the admission of it, by the serial that it has
-abbrev pub AdmitsOwn : {P E : Type 0} → Result (ℕ × P × Made) E → Client → Type 0
-AdmitsOwn answer client = IfOk answer (λ r. made_event r.2 ≡ Admitted r.0 client)
+abbrev pub AdmitsOwn : {P E : Type 0} → Result (ℕ × P × Reported) E → Client → Type 0
+AdmitsOwn answer client = IfOk answer (λ r. reported_event r.2 ≡ Admitted r.0 client)
 
 -- this event ends the connection with a serial: it goes, or is retired
 abbrev pub IsEndOf : Event → (serial : ℕ) → Type 0

@@ -13,7 +13,7 @@ use Rattle.rule_lookup.specs.declared.decision.DecideFault.TheVariants.{Find, Co
 use Rattle.rule_lookup.specs.declared.decision.Decision.{Decision}
 use Rattle.rule_lookup.specs.declared.decision.WhenMissing.{WhenMissing}
 use Rattle.rule_lookup.specs.declared.source.FindFault.TheVariants as find
-use Rattle.server_yard.specs.Passes.{pass_bytes, pass_missing, trust_in}
+use Rattle.server_yard.specs.Passes.{pass_bytes, trust_in}
 use Rattle.server_yard.specs.declared.pass.Pass.{Pass}
 
 -- the bytes of the rules file, or that there is none, and what is decided without one
@@ -21,12 +21,12 @@ pub record Opening : Type 0 where
   pub bytes : Option (List ℕ)
   pub missing : WhenMissing
 
--- what a pass has
-abbrev pub opening_of : {L F : Type 0} → (F → List ℕ) → Pass L F → Opening
-opening_of bytes pass = record { bytes = pass_bytes bytes pass; missing = pass_missing pass }
+-- what a pass has, and what is decided without a file
+abbrev pub opening_of : {L F : Type 0} → (F → List ℕ) → WhenMissing → Pass L F → Opening
+opening_of bytes missing pass = record { bytes = pass_bytes bytes pass; missing = missing }
 
--- a new handle of the rules was opened for the connection with this serial, and this stood there; without a file this is
--- decided
+-- a new handle of the rules was opened for the connection with this serial, and this stood there; without a file this
+-- is decided
 pub record IsFoundFor {H : Type 0} (gives : H → Type 0) (opened : H → ℕ → Option (List ℕ) → H → Type 0)
     (missing : WhenMissing) (serial : ℕ) (found : Opening) : Type 0 where
   pub handle : H

@@ -5,16 +5,21 @@ ghost use Rattle.std.specs.Option.{option_map};
 use child_jobs::{Job, Launcher};
 use dir_calls::{DirFault, RulesFile};
 use rule_lookup::Peer;
-use shared_site::Ground;
+use server_yard::Places;
 use std::alloc::{AllocError, Global};
 use std::io::Write;
 use std::sync::Wait;
 
-/// What a server's connections are decided and told by: the runtime, the rules and the log, beside the ground of their
-/// site. It is a name for these types together, and has no values.
-pub trait ServiceGround: Ground {
+/// What a server's connections are decided and told by. It is a name for these types together, and has no values.
+pub trait ServiceGround {
     /// The runtime.
     type Runtime: Wait;
+
+    /// The ledger of the places of connections.
+    type Places: Places;
+
+    /// A rules file that a connection has opened.
+    type File: RulesFile + Drop;
 
     /// What one connection opens the rules by.
     type Handle: RulesHandle<Self::File> + Drop;
@@ -38,9 +43,6 @@ pub trait Host: ServiceGround {
 
     /// The program of a connection while it runs.
     type Job: Job;
-
-    /// How many connections the server is to let in, if there is such a number.
-    ghost admissions: { Option ℕ };
 }
 
 /// Where the rules stand that each connection opens for itself.

@@ -1,5 +1,5 @@
 //! How a connection is decided: by what a handle of its own finds when it opens the rules. No other connection waits
-//! meanwhile.
+//! while the rules are opened, read or closed.
 ghost use Rattle.std.specs.Prelude.{◌≡◌, [], IfErr, IfOk};
 ghost use Rattle.server_yard.specs.Passes.{pass_serial};
 ghost use Rattle.tcp_service.specs.Ends.{noted_event};
@@ -57,8 +57,9 @@ impl<G: ServiceGround> Context<'_, G> {
         requires greeted { greeted_with greeted.now ≡ self.now.plan.now.banner }
         requires new { G.Rules.gives self.now.rules.now handle.old }
         ensures its { IfOk result (λ pass. pass_serial pass ≡ (greeted_identity greeted.now).serial) }
-        ensures found { IfOk result (λ pass. IsFoundFor (G.Rules.gives self.now.rules.now) G.Handle.opened G.missing
-            (greeted_identity greeted.now).serial (opening_of G.File.bytes pass)) }
+        ensures found { IfOk result (λ pass. IsFoundFor
+            (G.Rules.gives self.now.rules.now) G.Handle.opened G.Places.missing
+            (greeted_identity greeted.now).serial (opening_of G.File.bytes G.Places.missing pass)) }
         ensures given_up { IfErr result (GivesUp (λ _. ⊥) []) }
     {
         match handle.open(self.alloc, greeted.identity.serial) {
@@ -78,17 +79,17 @@ impl<G: ServiceGround> Context<'_, G> {
         requires greeted { greeted_with greeted.now ≡ self.now.plan.now.banner }
         requires new { G.Rules.gives self.now.rules.now handle.old }
         ensures judged { IfOk result (λ judged. IsDecided
-            (IsFoundFor (G.Rules.gives self.now.rules.now) G.Handle.opened G.missing)
+            (IsFoundFor (G.Rules.gives self.now.rules.now) G.Handle.opened G.Places.missing)
             G.File.honest G.File.sound (greeted_identity greeted.now) self.now.plan.now
             (noted_event judged.noted) judged.verdict judged.environment) }
         ensures given_up { IfErr result (GivesUp
-            (FailsFor (IsFoundFor (G.Rules.gives self.now.rules.now) G.Handle.opened G.missing
+            (FailsFor (IsFoundFor (G.Rules.gives self.now.rules.now) G.Handle.opened G.Places.missing
             (greeted_identity greeted.now).serial)
             G.File.honest G.File.sound (greeted_identity greeted.now).peer) []) }
     {
         let pass = self.open(greeted, handle)?;
         let Identity { peer, local, .. } = &greeted.identity;
-        let decision = match decide(self.alloc, pass.source(), pass.missing(), peer) {
+        let decision = match decide(self.alloc, pass.source(), self.missing, peer) {
             Ok(decision) => decision,
             Err(fault) => {
                 drop(pass);
@@ -102,7 +103,9 @@ impl<G: ServiceGround> Context<'_, G> {
             return Err(DropCause::Memory);
         };
         let verdict = decision.verdict;
-        match self.decided(pass, &greeted.identity, decision) {
+        let noted = self.decided(&pass, &greeted.identity, decision);
+        drop(pass);
+        match noted {
             Ok(noted) => Ok(Judged {
                 noted,
                 verdict,
@@ -122,11 +125,11 @@ impl<G: ServiceGround> Context<'_, G> {
     pub(crate) fn decide<X>(&self, greeted: &Greeted<'_, X>) -> Result<Judged, GivenUp>
         requires greeted { greeted_with greeted.now ≡ self.now.plan.now.banner }
         ensures judged { IfOk result (λ judged. IsDecided
-            (IsFoundFor (G.Rules.gives self.now.rules.now) G.Handle.opened G.missing)
+            (IsFoundFor (G.Rules.gives self.now.rules.now) G.Handle.opened G.Places.missing)
             G.File.honest G.File.sound (greeted_identity greeted.now) self.now.plan.now
             (noted_event judged.noted) judged.verdict judged.environment) }
         ensures given_up { IfErr result (λ up. GivesUp
-            (FailsFor (IsFoundFor (G.Rules.gives self.now.rules.now) G.Handle.opened G.missing
+            (FailsFor (IsFoundFor (G.Rules.gives self.now.rules.now) G.Handle.opened G.Places.missing
             (greeted_identity greeted.now).serial)
             G.File.honest G.File.sound (greeted_identity greeted.now).peer) [] up.cause) }
     {

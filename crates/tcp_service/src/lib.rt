@@ -1,8 +1,8 @@
-//! The service of TCP connections: who is let in, the calls of each connection at a site, and when the lines of the log
-//! are written. A line that can't be written is left out.
+//! The service of TCP connections: who is let in, the events of each connection in a yard that all share under a lock,
+//! and when the lines of the log are written. A line that can't be written is left out.
 //!
-//! The program's `serve` lends a `Server` to `Workers`. What it stands on is one type, a `Host`: its types are the
-//! ground of the site, the runtime, the rules, the log, and connections with their programs. The life of a connection
+//! The program's `serve` lends a `Server` to `Workers`. What it stands on is one type, a `Host`: its types are those of
+//! the yard's places, the runtime, the rules, the log, and connections with their programs. The life of a connection
 //! is one value after another: `Admitted` with a `Guest`, `Greeted`, `Alive`, `Over`. Neither an `Admitted` nor an
 //! `Alive` can be let go, and an end can't be told twice. `Server::begin` greets a client, decides it by what is found
 //! for it, and starts its program. What passes between a client and its program is no part of it: a pumped connection
@@ -14,10 +14,10 @@ pub mod guest;
 pub mod host;
 mod judging;
 mod reasons;
+pub mod reporting;
 pub mod server;
 pub mod serving;
 pub mod telling;
 
-pub use entrance::NoNumbers;
 pub use host::{Host, Rules, RulesHandle, ServiceGround};
 pub use server::{Context, Server, Service};

@@ -1,12 +1,14 @@
 //! What all connections of a server share.
+ghost use Rattle.std.specs.Prelude.{◌≡◌};
 ghost use Rattle.tcp_service.specs.Openings.{IsFoundFor};
 ghost use Rattle.tcp_service.specs.Servings.{MayStartEach};
 
 use crate::host::{Host, ServiceGround};
 use child_jobs::Plan;
+use rule_lookup::WhenMissing;
 use server_log::Log;
 use server_words::ConnectionLimits;
-use shared_site::Site;
+use server_yard::Yard;
 use std::alloc::Global;
 use std::sync::Mutex;
 use tcp_connections::{HostNames, Reserve, Supply};
@@ -18,14 +20,17 @@ pub struct Context<'a, G: ServiceGround> {
     pub rt: &'a G::Runtime,
     /// What gives memory.
     pub alloc: Global,
-    /// Where their events are made.
-    pub site: &'a Site<G>,
+    /// The yard that their events are made in.
+    pub yard: &'a Mutex<Yard<G::Places>>,
     /// The rules, which each connection opens for itself.
     pub rules: &'a G::Rules,
+    /// What is decided where no rules file stands.
+    pub missing: WhenMissing,
     /// The program, its variables and the banner.
     pub plan: &'a Plan,
-    /// The log. It is locked within a turn, so that its lines stand in the order of events.
+    /// The log. It is locked while the yard is, so that its lines stand in the order of events.
     pub log: &'a Mutex<Log<G::Lines>>,
+    pub ghost without: { missing ≡ G.Places.missing },
 }
 
 /// What all connections of a server share. A connection may start its program once it was greeted and allowed (`may`):
@@ -36,7 +41,7 @@ pub struct Server<'a, H: Host> {
     pub context: Context<'a, H>,
     /// What is done for all of them.
     pub service: &'a Service,
-    pub ghost may: { MayStartEach (IsFoundFor (H.Rules.gives context.rules.now) H.Handle.opened H.missing)
+    pub ghost may: { MayStartEach (IsFoundFor (H.Rules.gives context.rules.now) H.Handle.opened H.Places.missing)
         H.File.honest H.File.sound context.plan.now H.Connection.contents H.Connection.may },
 }
 

@@ -4,23 +4,24 @@ ghost use Rattle.std.specs.Prelude.{◌≡◌, IfOk, IfErr, Some};
 ghost use Rattle.child_jobs.specs.Runs.{job_of, place_of};
 ghost use Rattle.rule_lookup.specs.declared.instr.Verdict.TheVariants.{Allow};
 ghost use Rattle.server_events.specs.declared.event.Event.TheVariants as event;
-ghost use Rattle.shared_site.specs.Receipts.{made_event};
 ghost use Rattle.tcp_service.specs.Accepting.{IsAccepted};
 ghost use Rattle.tcp_service.specs.Ends.{begun_decided, begun_last, noted_event, over_decided, over_end};
 ghost use Rattle.tcp_service.specs.Greetings.{RefusesGreeted, greeted_connection, greeted_identity, guest_connection, guest_identity};
 ghost use Rattle.tcp_service.specs.Lives.{IsEndOfChild};
 ghost use Rattle.tcp_service.specs.Openings.{IsFoundFor};
+ghost use Rattle.tcp_service.specs.Reports.{reported_event};
 ghost use Rattle.tcp_service.specs.Servings.{EndsFor, FailsToStart, IsChild, IsDecided, IsDecidedChild, MayStart};
 
-use crate::entrance::{NoNumbers, admit, ends_of};
+use crate::entrance::{admit, ends_of};
 use crate::guest::{Greeted, Guest, Identity};
 use crate::host::Host;
 use crate::judging::Judged;
+use crate::reporting::Reported;
 use crate::server::Server;
 use crate::telling::{Begun, Over};
 use child_jobs::{Place, Running};
 use rule_lookup::Verdict;
-use shared_site::Made;
+use server_yard::NoNumbers;
 use std::snapshot::Snapshot;
 use tcp_connections::{Accepted, Entrance, Refused, Serving, wait_in_rounds};
 
@@ -29,8 +30,8 @@ use tcp_connections::{Accepted, Entrance, Refused, Serving, wait_in_rounds};
 pub struct Admitted<H: Host> {
     pub(crate) guest: Guest<H::Connection>,
     pub(crate) place: Place<H::Places>,
-    pub(crate) made: Snapshot<Made>,
-    pub(crate) ghost own: { made_event made.value
+    pub(crate) admitted: Snapshot<Reported>,
+    pub(crate) ghost own: { reported_event admitted.value
         ≡ event.Admitted (guest_identity guest).serial (guest_identity guest).peer },
 }
 
@@ -65,7 +66,7 @@ where
     ghost is_its = { λ server came admitted.
         IsAccepted server.service.now.names admitted.guest came };
 
-    ghost count = { H.admissions };
+    ghost count = { H.Places.admissions };
 
     ghost retired = { λ over. over.is_retired };
 
@@ -82,7 +83,7 @@ where
             return Err(Refused::Once);
         };
         match admit(context, entrance, &peer) {
-            Ok((serial, place, made)) => {
+            Ok((serial, place, admitted)) => {
                 let identity = Identity {
                     serial,
                     peer,
@@ -91,7 +92,7 @@ where
                 Ok(Admitted {
                     guest: Guest::new(identity, came.connection),
                     place,
-                    made: Snapshot::of(&made),
+                    admitted: Snapshot::of(&admitted),
                 })
             }
             Err(refused) => {
@@ -117,20 +118,20 @@ where
         ensures place { IfOk result (λ alive. place_of alive.running ≡ admitted.place) }
         // the decided program, with the decided environment
         ensures child { IfOk result (λ alive. IsDecidedChild
-            (IsFoundFor (H.Rules.gives self.now.context.rules.now) H.Handle.opened H.missing) H.File.honest H.File.sound
-            (guest_identity admitted.guest) self.now.context.plan.now
+            (IsFoundFor (H.Rules.gives self.now.context.rules.now) H.Handle.opened H.Places.missing)
+            H.File.honest H.File.sound (guest_identity admitted.guest) self.now.context.plan.now
             (H.Job.program (job_of alive.running)) (H.Job.environment (job_of alive.running))) }
         ensures over { IfErr result (λ over. over.serial ≡ (guest_identity admitted.guest).serial) }
         ensures reason { IfErr result (λ over. EndsFor
-            (IsFoundFor (H.Rules.gives self.now.context.rules.now) H.Handle.opened H.missing) H.File.honest H.File.sound
-            (guest_identity admitted.guest) self.now.context.plan.now
+            (IsFoundFor (H.Rules.gives self.now.context.rules.now) H.Handle.opened H.Places.missing)
+            H.File.honest H.File.sound (guest_identity admitted.guest) self.now.context.plan.now
             (RefusesGreeted H.Connection.contents self.now.context.plan.now.banner
             H.Connection.refuses (guest_connection admitted.guest)) (over_decided over) (over_end over)) }
     {
         let Admitted {
             guest,
             place,
-            made: _,
+            admitted: _,
         } = admitted;
         let (context, serial) = (&self.context, guest.identity.serial);
         let greeted = match guest.greet(context.plan.banner()) {
@@ -196,23 +197,24 @@ impl<H: Host> Server<'_, H> {
         place: Place<H::Places>,
         judged: Judged,
     ) -> Result<(Alive<H>, Begun), Over>
-        requires may { MayStart (IsFoundFor (H.Rules.gives self.now.context.rules.now) H.Handle.opened H.missing)
+        requires may { MayStart (IsFoundFor (H.Rules.gives self.now.context.rules.now) H.Handle.opened H.Places.missing)
             H.File.honest H.File.sound (greeted_identity greeted) self.now.context.plan.now
             (H.Connection.may (greeted_connection greeted)) }
-        requires allowed { IsDecided (IsFoundFor (H.Rules.gives self.now.context.rules.now) H.Handle.opened H.missing)
+        requires allowed { IsDecided
+            (IsFoundFor (H.Rules.gives self.now.context.rules.now) H.Handle.opened H.Places.missing)
             H.File.honest H.File.sound (greeted_identity greeted) self.now.context.plan.now
             (noted_event judged.noted) Allow judged.environment }
         ensures own { IfOk result (λ r. r.0.serial ≡ (greeted_identity greeted.entry).serial) }
         ensures place { IfOk result (λ r. place_of r.0.running ≡ place) }
         ensures told { IfOk result (λ r. begun_last r.1 ≡ event.Started (greeted_identity greeted.entry).serial) }
         ensures child { IfOk result (λ r. IsChild
-            (IsFoundFor (H.Rules.gives self.now.context.rules.now) H.Handle.opened H.missing) H.File.honest H.File.sound
-            (greeted_identity greeted.entry) self.now.context.plan.now (begun_decided r.1)
+            (IsFoundFor (H.Rules.gives self.now.context.rules.now) H.Handle.opened H.Places.missing)
+            H.File.honest H.File.sound (greeted_identity greeted.entry) self.now.context.plan.now (begun_decided r.1)
             (H.Job.program (job_of r.0.running)) (H.Job.environment (job_of r.0.running))) }
         ensures over { IfErr result (λ over. over.serial ≡ (greeted_identity greeted.entry).serial) }
         ensures reason { IfErr result (λ over. FailsToStart
-            (IsFoundFor (H.Rules.gives self.now.context.rules.now) H.Handle.opened H.missing) H.File.honest H.File.sound
-            (greeted_identity greeted.entry) self.now.context.plan.now
+            (IsFoundFor (H.Rules.gives self.now.context.rules.now) H.Handle.opened H.Places.missing)
+            H.File.honest H.File.sound (greeted_identity greeted.entry) self.now.context.plan.now
             (H.Connection.refuses (greeted_connection greeted.entry)) (noted_event judged.noted) (over_end over)) }
         ensures noted { IfErr result (λ over. over_decided over ≡ Some (noted_event judged.noted)) }
     {

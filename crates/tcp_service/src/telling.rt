@@ -1,37 +1,38 @@
-//! What is told of a connection. Each of its events is a turn of a site, and the log is told of it before the turn is
-//! over. What the site answered goes on with the connection, and in the end says that it is over.
-ghost use Rattle.std.specs.Prelude.{◌≡◌, ◌≢◌, IfErr, IfOk, None, OnErr, Some};
+//! What is told of a connection. Each of its events is made in a yard that all share, and the log is told of it before
+//! the yard's lock is let go. What the yard answered goes on with the connection, and in the end says that it is over.
+ghost use Rattle.std.specs.Prelude.{◌≡◌, ◌≢◌, IfErr, IfOk, None, OnErr, Some, is_ok, true};
 ghost use Rattle.child_jobs.specs.declared.outcome.DropCause.TheVariants.{Banner, Denied, Directory};
 ghost use Rattle.server_events.specs.declared.event.Event.TheVariants as event;
-ghost use Rattle.server_yard.specs.Passes.{pass_file, pass_missing, pass_serial};
-ghost use Rattle.shared_site.specs.Turns.{IsAnswer};
-ghost use Rattle.tcp_service.specs.Lives.{IsEndOf, asked, retires};
+ghost use Rattle.server_yard.specs.Passes.{pass_file, pass_serial};
+ghost use Rattle.server_yard.specs.Seating.{leaver};
+ghost use Rattle.tcp_service.specs.Lives.{IsEndOf, retires};
 ghost use Rattle.tcp_service.specs.Openings.{Decides, opening_of};
+ghost use Rattle.tcp_service.specs.Reports.{Tells, reported_answer, reported_event};
 
 use crate::guest::{CutShort, Greeted, Identity};
 use crate::host::{Rules, ServiceGround};
 use crate::reasons::{GivenUp, Reason, cause_of_absence, cause_of_damage, words_of};
+use crate::reporting::Reported;
 use crate::server::Context;
 use child_jobs::{DropCause, Exit, Job, NotStarted, Place, Running};
 use rule_lookup::Decision;
-use server_log::{Cause, Log, Told};
-use server_yard::{Leaving, Pass};
-use shared_site::site::{Decided, Left, Opened, Retired, Started};
-use shared_site::{Made, OutOfTurn, Turn, YardOf};
+use server_events::Event;
+use server_log::{Cause, Told};
+use server_yard::Pass;
 use std::snapshot::Snapshot;
-use std::sync::Mutex;
 
-/// The evidence that the site noted a connection's decision. The language lets nobody drop it: it goes into what
+/// The evidence that a connection's decision was noted. The language lets nobody drop it: it goes into what
 /// becomes of the connection.
 pub(crate) struct Noted {
-    made: Made,
+    decision: Reported,
+    ghost made: { is_ok (reported_answer decision) ≡ true },
 }
 
 /// What was noted of a connection whose program runs: its decision, and that it runs. Only `started` makes one.
 #[derive(Drop)]
 pub(crate) struct Begun {
-    decided: Snapshot<Made>,
-    last: Snapshot<Result<Made, OutOfTurn>>,
+    decided: Snapshot<Reported>,
+    last: Snapshot<Reported>,
 }
 
 /// That a connection is over: the last that was told of it is its end. Only its end makes one.
@@ -41,28 +42,28 @@ pub struct Over {
     /// Whether its place is never free again.
     pub(crate) is_retired: bool,
     // the event that notes its decision, if it ended by that
-    decided: Option<Snapshot<Made>>,
-    // what its site answered last
-    last: Snapshot<Result<Made, OutOfTurn>>,
-    ghost end: { ∥ IsEndOf (asked last.value) serial ∥₁ },
-    ghost retired: { is_retired ≡ retires (asked last.value) },
+    decided: Option<Snapshot<Reported>>,
+    // what its yard answered last
+    last: Snapshot<Reported>,
+    ghost end: { ∥ IsEndOf (reported_event last.value) serial ∥₁ },
+    ghost retired: { is_retired ≡ retires (reported_event last.value) },
 }
 
 impl Over {
     ghost use Rattle.tcp_service.specs.Ends.{over_end};
 
-    // Evidence that the connection with this serial number is over, by what its site answered last.
+    // Evidence that the connection with this serial number is over, by what its yard answered last.
     fn of(
         serial: u64,
         is_retired: bool,
-        decided: Option<Snapshot<Made>>,
-        last: Result<Made, OutOfTurn>,
+        decided: Option<Snapshot<Reported>>,
+        last: Reported,
     ) -> Over
-        requires end { IsEndOf (asked last) serial }
-        requires retired { is_retired ≡ retires (asked last) }
+        requires end { IsEndOf (reported_event last) serial }
+        requires retired { is_retired ≡ retires (reported_event last) }
         ensures own { result.serial ≡ serial }
         ensures decided { result.decided ≡ decided }
-        ensures end { over_end result ≡ asked last }
+        ensures end { over_end result ≡ reported_event last }
     {
         Over {
             serial,
@@ -77,23 +78,6 @@ impl<G: ServiceGround> Context<'_, G> {
     ghost use Rattle.tcp_service.specs.Ends.{begun_decided, begun_last, noted_event, over_decided, over_end};
     ghost use Rattle.tcp_service.specs.Greetings.{cut_identity, cut_with, greeted_identity, greeted_with};
 
-    // Makes the event of a connection, of which the log is told.
-    fn tell<T>(&self, turn: T, told: Told<'_>) -> Result<Made, OutOfTurn>
-    where
-        T: Turn<G, Answer = Result<Made, OutOfTurn>>,
-        requires may { T.may turn }
-        ensures answered { IsAnswer (T.answers turn) result }
-    {
-        let (rt, log) = (self.rt, self.log);
-        let telling = Telling::<G, T> {
-            turn,
-            told,
-            rt,
-            log,
-        };
-        self.site.turn(rt, telling)
-    }
-
     /// A connection has found this file, or none, after its client was greeted.
     ///
     /// # Errors
@@ -105,17 +89,13 @@ impl<G: ServiceGround> Context<'_, G> {
     ) -> Result<Pass<G::Places, G::File>, DropCause>
         requires greeted { greeted_with greeted.now ≡ self.now.plan.now.banner }
         ensures its { IfOk result (λ pass. pass_serial pass ≡ (greeted_identity greeted.now).serial) }
-        ensures missing { IfOk result (λ pass. pass_missing pass ≡ G.missing) }
         ensures file { IfOk result (λ pass. pass_file pass ≡ file) }
         ensures cause { IfErr result (λ why. why ≡ Directory) }
     {
         let serial = greeted.identity.serial;
-        match self.site.turn(self.rt, Opened::<G> { serial, file }) {
-            Some((pass, made)) => {
-                drop(made);
-                Ok(pass)
-            }
-            None => Err(DropCause::Directory),
+        match self.yard.lock(self.rt).opened(serial, file) {
+            Ok((pass, _)) => Ok(pass),
+            Err(_) => Err(DropCause::Directory),
         }
     }
 
@@ -123,16 +103,16 @@ impl<G: ServiceGround> Context<'_, G> {
     ///
     /// # Errors
     /// It may not be decided now, which counts as a fault of the directory.
-    #[tactic(auto, using(crate::proofs::Asked::asked_for))]
+    #[tactic(auto, using(crate::proofs::Asked::asked_for, crate::proofs::Asked::told_as))]
     pub(crate) fn decided(
         &self,
-        pass: Pass<G::Places, G::File>,
+        pass: &Pass<G::Places, G::File>,
         identity: &Identity,
         decision: Decision,
     ) -> Result<Noted, DropCause>
         requires decides { Decides
-            G.File.honest G.File.sound (opening_of G.File.bytes pass) identity.now.peer decision }
-        ensures noted { IfOk result (λ noted. noted_event noted ≡ event.Decided (pass_serial pass) decision) }
+            G.File.honest G.File.sound (opening_of G.File.bytes G.Places.missing pass.now) identity.now.peer decision }
+        ensures noted { IfOk result (λ noted. noted_event noted ≡ event.Decided (pass_serial pass.now) decision) }
         ensures cause { IfErr result (λ why. why ≡ Directory) }
     {
         let peer = &identity.peer;
@@ -143,19 +123,20 @@ impl<G: ServiceGround> Context<'_, G> {
             peer,
             file: cause_of_absence(self.rules.path(), &decision),
         };
-        let turn = Decided::<G> {
-            pass,
-            peer,
-            decision,
-        };
-        match self.tell(turn, told) {
-            Ok(made) => Ok(Noted { made }),
-            Err(_) => Err(DropCause::Directory),
+        let mut yard = self.yard.lock(self.rt);
+        let answer = yard.decided(pass, peer, decision);
+        let decision = self.report(&yard, answer, told);
+        drop(yard);
+        if decision.was_made() {
+            Ok(Noted { decision })
+        } else {
+            drop(decision);
+            Err(DropCause::Directory)
         }
     }
 
     /// The program of the connection with this serial number runs.
-    #[tactic(auto, using(crate::proofs::Asked::asked_for))]
+    #[tactic(auto, using(crate::proofs::Asked::asked_for, crate::proofs::Asked::told_as))]
     pub(crate) fn started<C: Job>(
         &self,
         noted: Noted,
@@ -165,18 +146,19 @@ impl<G: ServiceGround> Context<'_, G> {
         ensures decided { begun_decided result ≡ noted_event noted }
         ensures asked { begun_last result ≡ event.Started serial }
     {
-        let Noted { made } = noted;
+        let Noted { decision } = noted;
         let process = running.process();
-        let turn = Started::<G, C> { serial, running };
-        let last = self.tell(turn, Told::Started { serial, process });
+        let mut yard = self.yard.lock(self.rt);
+        let answer = yard.started(serial, running);
+        let last = self.report(&yard, answer, Told::Started { serial, process });
+        drop(yard);
         Begun {
-            decided: Snapshot::of(&made),
+            decided: Snapshot::of(&decision),
             last: Snapshot::of(&last),
         }
     }
 
     /// Its program was not started, for this reason. Its place is given back.
-    #[tactic(auto, using(crate::proofs::Asked::asked_for))]
     pub(crate) fn start_failed(
         &self,
         noted: Noted,
@@ -188,7 +170,7 @@ impl<G: ServiceGround> Context<'_, G> {
         ensures decided { over_decided result ≡ Some (noted_event noted) }
         ensures end { over_end result ≡ event.StartFailed serial refusal.fault }
     {
-        let Noted { made } = noted;
+        let Noted { decision } = noted;
         let NotStarted { fault, error } = refusal;
         let why = words_of(self.alloc, error);
         let program = self.plan.program().path().as_bytes();
@@ -198,14 +180,10 @@ impl<G: ServiceGround> Context<'_, G> {
             fault,
             cause,
         };
-        let turn = Left::<G> {
-            serial,
-            place,
-            leaving: Leaving::StartFailed(fault),
-        };
-        let answer = self.tell(turn, told);
+        let event = Event::StartFailed { serial, fault };
+        let last = self.gone(serial, place, event, told);
         drop(why);
-        Over::of(serial, false, Some(Snapshot::of(&made)), answer)
+        Over::of(serial, false, Some(Snapshot::of(&decision)), last)
     }
 
     /// A connection was denied. Its place is given back.
@@ -214,9 +192,9 @@ impl<G: ServiceGround> Context<'_, G> {
         ensures decided { over_decided result ≡ Some (noted_event noted) }
         ensures end { over_end result ≡ event.Dropped serial Denied }
     {
-        let Noted { made } = noted;
-        let answer = self.leave(serial, place, DropCause::Denied, None);
-        Over::of(serial, false, Some(Snapshot::of(&made)), answer)
+        let Noted { decision } = noted;
+        let last = self.give_up(serial, place, DropCause::Denied, None);
+        Over::of(serial, false, Some(Snapshot::of(&decision)), last)
     }
 
     /// A connection is given up, since its client could not be sent the whole banner. Its place is given back.
@@ -227,8 +205,8 @@ impl<G: ServiceGround> Context<'_, G> {
         ensures end { over_end result ≡ event.Dropped (cut_identity cut.now).serial Banner }
     {
         let serial = cut.identity.serial;
-        let answer = self.leave(serial, place, DropCause::Banner, None);
-        Over::of(serial, false, None, answer)
+        let last = self.give_up(serial, place, DropCause::Banner, None);
+        Over::of(serial, false, None, last)
     }
 
     /// A connection is given up undecided, after its client was greeted. Its place is given back.
@@ -246,20 +224,19 @@ impl<G: ServiceGround> Context<'_, G> {
     {
         let GivenUp { cause, reason } = up;
         let serial = greeted.identity.serial;
-        let answer = self.leave(serial, place, cause, reason);
-        Over::of(serial, false, None, answer)
+        let last = self.give_up(serial, place, cause, reason);
+        Over::of(serial, false, None, last)
     }
 
     // It leaves before its program was started, for this cause.
-    #[tactic(auto, using(crate::proofs::Asked::asked_for))]
-    fn leave(
+    fn give_up(
         &self,
         serial: u64,
         place: Place<G::Places>,
         cause: DropCause,
         reason: Option<Reason>,
-    ) -> Result<Made, OutOfTurn>
-        ensures asked { asked result ≡ event.Dropped serial cause }
+    ) -> Reported
+        ensures asked { reported_event result ≡ event.Dropped serial cause }
     {
         let path = self.rules.path();
         let why = reason.as_ref().map(|reason| reason.cause(path));
@@ -270,18 +247,28 @@ impl<G: ServiceGround> Context<'_, G> {
             file,
             why,
         };
-        let turn = Left::<G> {
-            serial,
-            place,
-            leaving: Leaving::Dropped(cause),
-        };
-        let answer = self.tell(turn, told);
+        let event = Event::Dropped { serial, cause };
+        let last = self.gone(serial, place, event, told);
         drop(reason);
-        answer
+        last
+    }
+
+    // It has gone by this event, and its place is given back.
+    #[tactic(auto, using(crate::proofs::Asked::asked_for, crate::proofs::Asked::told_as))]
+    fn gone(&self, serial: u64, place: Place<G::Places>, event: Event, told: Told<'_>) -> Reported
+        requires goes { leaver event ≡ Some serial }
+        requires its { Tells told event }
+        ensures asked { reported_event result ≡ event }
+    {
+        let mut yard = self.yard.lock(self.rt);
+        let answer = yard.left(serial, place, event);
+        let reported = self.report(&yard, answer, told);
+        drop(yard);
+        reported
     }
 
     /// Its program ended so, and its place is given back; or the program could not be waited for.
-    #[tactic(auto, using(crate::proofs::Asked::asked_for))]
+    #[tactic(auto, using(crate::proofs::Asked::asked_for, crate::proofs::Asked::told_as))]
     pub(crate) fn ended<C: Job>(
         &self,
         serial: u64,
@@ -294,61 +281,22 @@ impl<G: ServiceGround> Context<'_, G> {
         match ended {
             Ok((place, exit)) => {
                 let Exit { status, signal } = exit;
-                let turn = Left::<G> {
-                    serial,
-                    place,
-                    leaving: Leaving::Ended(status),
-                };
+                let event = Event::Ended { serial, status };
                 let told = Told::Ended {
                     serial,
                     status,
                     signal,
                 };
-                let answer = self.tell(turn, told);
-                Over::of(serial, false, None, answer)
+                let last = self.gone(serial, place, event, told);
+                Over::of(serial, false, None, last)
             }
             Err(running) => {
-                let turn = Retired::<G, C> { serial, running };
-                let answer = self.tell(turn, Told::Retired { serial });
-                Over::of(serial, true, None, answer)
+                let mut yard = self.yard.lock(self.rt);
+                let answer = yard.retired(serial, running);
+                let last = self.report(&yard, answer, Told::Retired { serial });
+                drop(yard);
+                Over::of(serial, true, None, last)
             }
         }
-    }
-}
-
-// A turn of a connection that was let in, and what the log is told of its event before the turn is over. So its lines
-// stand in the order of events.
-struct Telling<'a, G: ServiceGround, T> {
-    turn: T,
-    told: Told<'a>,
-    rt: &'a G::Runtime,
-    log: &'a Mutex<Log<G::Lines>>,
-}
-
-impl<G, T> Turn<G> for Telling<'_, G, T>
-where
-    G: ServiceGround,
-    T: Turn<G, Answer = Result<Made, OutOfTurn>>,
-{
-    type Answer = Result<Made, OutOfTurn>;
-
-    ghost may = { λ telling. T.may telling.turn };
-
-    ghost answers = { λ telling. T.answers telling.turn };
-
-    ghost tells = { λ telling. T.tells telling.turn };
-
-    fn run(self, yard: &mut YardOf<G>) -> Result<Made, OutOfTurn> {
-        let Telling {
-            turn,
-            told,
-            rt,
-            log,
-        } = self;
-        let answer = turn.run(yard);
-        if let Ok(made) = &answer {
-            let _ = log.lock(rt).tell(made.at(), yard.live(), told);
-        }
-        answer
     }
 }

@@ -1,24 +1,24 @@
 //! Calls of a site that have to succeed. A caller keeps the receipt of each. Where one does not succeed, that is noted:
 //! the whole run is wrong then, and a place that is held may be stranded.
-ghost use Rattle.std.specs.Prelude.{IfSome};
+ghost use Rattle.std.specs.Prelude.{◌≡◌, IfSome, Some};
 ghost use Rattle.server_yard.specs.Passes.{IsDecidedBy};
+ghost use Rattle.server_yard.specs.Seating.{leaver};
 
-use crate::children::{Idle, end_child, start_child};
+use crate::children::{end_child, start_child};
 use crate::receipts::Receipts;
-use crate::sites::{InMemory, MemSite};
+use crate::sites::MemSite;
 use child_jobs::{DropCause, Place};
 use dir_calls::RulesFile;
 use memory_dirs::MemFile;
-use rule_lookup::{Decision, Peer, Verdict, decide};
+use rule_lookup::{Decision, Peer, Verdict, WhenMissing, decide};
 use rules_install::Install;
 use server_events::Event;
-use server_yard::{AdmitFault, Leaving, Pass};
-use shared_site::site::{Admit, Decided, Left, Started};
+use server_yard::{AdmitFault, Pass, Places};
 use std::alloc::Global;
 use std::sync::Wait;
-use std::sync::ledger::Ledger;
 use std::thread;
 use std::time::{Clock, Duration};
+use whole_yard::connection_turns::{Admit, Decided, Left, Started};
 use whole_yard::{Assumptions, Caller, Callers, InstallBegin, InstallStep, OfConnection, Open};
 
 /// More steps than an installation of a short text takes.
@@ -40,6 +40,9 @@ pub(crate) struct At<'a, L: Assumptions, N: Callers, R> {
     pub(crate) rt: &'a R,
     pub(crate) alloc: Global,
     pub(crate) site: &'a MemSite<L, N>,
+    /// What is decided where no rules file stands.
+    pub(crate) missing: WhenMissing,
+    pub(crate) ghost told: { missing ≡ L.missing },
 }
 
 impl<L: Assumptions, N: Callers, R: Wait + Clock> At<'_, L, N, R> {
@@ -51,7 +54,11 @@ impl<L: Assumptions, N: Callers, R: Wait + Clock> At<'_, L, N, R> {
         match self.decided(worker, serial, peer) {
             Some(Verdict::Allow) => self.run_child(worker, serial, place),
             Some(Verdict::Deny) => {
-                self.leave(worker, serial, place, Leaving::Dropped(DropCause::Denied));
+                let denied = || Event::Dropped {
+                    serial,
+                    cause: DropCause::Denied,
+                };
+                self.leave(worker, serial, place, denied(), denied());
             }
             None => place.strand(),
         }
@@ -68,8 +75,8 @@ impl<L: Assumptions, N: Callers, R: Wait + Clock> At<'_, L, N, R> {
                     worker.receipts.keep_admitted(made, serial, peer);
                     return Some((serial, place));
                 }
-                Err(refusal) => {
-                    if !matches!(refusal.fault(), AdmitFault::Full) {
+                Err(fault) => {
+                    if !matches!(fault, AdmitFault::Full) {
                         return None;
                     }
                     thread::sleep(self.rt, Duration::from_millis(1));
@@ -106,14 +113,14 @@ impl<L: Assumptions, N: Callers, R: Wait + Clock> At<'_, L, N, R> {
         peer: &Peer,
     ) -> Option<Verdict> {
         let serial = pass.serial();
-        let Some(decision) = decide_by(self.alloc, &pass, peer) else {
+        let Some(decision) = decide_by(self.alloc, &pass, self.missing, peer) else {
             drop(pass);
             worker.receipts.fail();
             return None;
         };
         let verdict = decision.verdict;
         let kept = decision.copy(self.alloc);
-        let turn = Decided::<InMemory<L>> {
+        let turn = Decided {
             pass,
             peer,
             decision,
@@ -130,7 +137,7 @@ impl<L: Assumptions, N: Callers, R: Wait + Clock> At<'_, L, N, R> {
         let Some(running) = start_child(self.alloc, place) else {
             return worker.receipts.fail();
         };
-        let started = Started::<InMemory<L>, Idle> {
+        let started = Started {
             serial,
             running: &running,
         };
@@ -139,22 +146,28 @@ impl<L: Assumptions, N: Callers, R: Wait + Clock> At<'_, L, N, R> {
             .turn(self.rt, &mut worker.caller, OfConnection(started));
         worker.receipts.keep_made(answer, Event::Started { serial });
         match end_child(running) {
-            Some((place, status)) => self.leave(worker, serial, place, Leaving::Ended(status)),
+            Some((place, status)) => {
+                let ended = || Event::Ended { serial, status };
+                self.leave(worker, serial, place, ended(), ended());
+            }
             None => worker.receipts.fail(),
         }
     }
 
-    /// Notes that a connection has gone so.
-    fn leave(&self, worker: &mut Worker<N>, serial: u64, place: Place<L>, leaving: Leaving) {
-        let left = Left::<InMemory<L>> {
+    /// Notes that a connection has gone by this event. The same event is its receipt's.
+    fn leave(&self, worker: &mut Worker<N>, serial: u64, place: Place<L>, event: Event, same: Event)
+        requires goes { leaver event ≡ Some serial }
+        requires same { same ≡ event }
+    {
+        let left = Left {
             serial,
             place,
-            leaving,
+            event,
         };
         let answer = self
             .site
             .turn(self.rt, &mut worker.caller, OfConnection(left));
-        worker.receipts.keep_made(answer, leaving.event(serial));
+        worker.receipts.keep_made(answer, same);
     }
 
     /// Steps an installation until it is done, or another one has taken its place.
@@ -186,12 +199,14 @@ impl<L: Assumptions, N: Callers, R: Wait + Clock> At<'_, L, N, R> {
 }
 
 /// The decision for a peer by the file that a pass has.
-fn decide_by<L: Ledger, F: RulesFile + Drop>(
+fn decide_by<L: Places, F: RulesFile + Drop>(
     alloc: Global,
     pass: &Pass<L, F>,
+    missing: WhenMissing,
     peer: &Peer,
 ) -> Option<Decision>
-    ensures { IfSome result (IsDecidedBy F.honest F.sound F.bytes pass.now peer.now) }
+    requires { missing ≡ L.missing }
+    ensures { IfSome result (IsDecidedBy L.missing F.honest F.sound F.bytes pass.now peer.now) }
 {
-    decide(alloc, pass.source(), pass.missing(), peer).ok()
+    decide(alloc, pass.source(), missing, peer).ok()
 }

@@ -1,5 +1,5 @@
 //! Eight callers in threads of their own, who share four places.
-ghost use Rattle.std.specs.Prelude.{◌≡◌, false};
+ghost use Rattle.std.specs.Prelude.{◌≡◌, true, false};
 ghost use Rattle.rule_lookup.specs.declared.decision.WhenMissing.TheVariants.{Deny};
 ghost use Rattle.whole_yard.specs.Callers.{new_count};
 
@@ -181,6 +181,7 @@ fn eight<
 >(rt: &R, places: Blank, parts: Blank) -> Option<Report>
     requires places { (places.name ≡ L.name) × (places.parts ≡ L.parts) × (places.parts ≡ LIMIT) }
     requires met { L.met ≡ false }
+    requires installs { L.installs ≡ true }
     requires missing { L.missing ≡ Deny }
     requires parts { (parts.name ≡ N.name) × (parts.parts ≡ N.parts) × (parts.parts ≡ CALLERS) }
     requires callers { N.before ≡ 0 }
@@ -193,6 +194,7 @@ fn eight<
         rt,
         alloc,
         site: &site,
+        missing: WhenMissing::Deny,
     };
     let (callers, receipts) = run_all(rt, alloc, &at, new);
     drop(at);

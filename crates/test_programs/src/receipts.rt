@@ -2,14 +2,15 @@
 ghost use Rattle.std.specs.Prelude.{◌≡◌, IfOk, IfSome};
 ghost use Rattle.dir_calls.specs.declared.phase.Phase.TheVariants.{Fresh};
 ghost use Rattle.server_events.specs.declared.event.Event.TheVariants.{Admitted, Decided, Stepped};
-ghost use Rattle.shared_site.specs.Receipts.{made_event};
+ghost use Rattle.server_yard.specs.Evidence.{made_event};
 
 use dir_calls::Phase;
 use rule_lookup::{Decision, Peer};
 use rules_install::{Install, InstallFault};
 use server_events::Event;
-use shared_site::{Made, OutOfTurn, Receipt};
+use server_yard::{Made, OutOfTurn};
 use std::alloc::{AllocError, Global};
+use whole_yard::Receipt;
 
 /// The receipts of callers, and whether one of their calls did not succeed.
 #[derive(Drop)]
@@ -47,7 +48,7 @@ impl Receipts {
     pub(crate) fn keep(&mut self, made: Made, event: Event)
         requires { made_event made ≡ event }
     {
-        let kept = self.list.push(made.receipt(event));
+        let kept = self.list.push(Receipt::of(made, event));
         self.has_failed |= kept.is_err();
         drop(kept);
     }

@@ -1,5 +1,5 @@
 //! Sites over a directory in memory, from the start to the audit.
-ghost use Rattle.std.specs.Prelude.{◌≡◌, false, IfSome, OnOk};
+ghost use Rattle.std.specs.Prelude.{◌≡◌, true, false, IfSome, OnOk};
 ghost use Rattle.server_events.specs.JournalParts.{books_of_journal};
 ghost use Rattle.headline.specs.Worlds.{missing_by};
 ghost use Rattle.whole_yard.specs.Callers.{new_count};
@@ -11,19 +11,15 @@ use dir_calls::Name;
 use memory_dirs::MemDir;
 use rule_lookup::WhenMissing;
 use server_events::{Event, Journal, Report, replay};
-use shared_site::Receipt;
 use std::alloc::{AllocError, Global};
 use std::sync::ledger::Blank;
 use whole_yard::{
-    Assumptions, BackCallers, Callers, ConnectionsOver, NewCallers, NotWhole, WholeSite, WholeYard,
+    Assumptions, BackCallers, Callers, NewCallers, NotWhole, Receipt, WholeSite, WholeYard,
     close_and_audit,
 };
 
 /// A site over a directory in memory.
 pub(crate) type MemSite<L, N> = WholeSite<L, N, MemDir>;
-
-/// What the turns of its connections stand on.
-pub(crate) type InMemory<L> = ConnectionsOver<L, MemDir>;
 
 /// A site over a directory, and so many callers.
 pub(crate) fn new_site<L: Assumptions, N: Callers>(
@@ -37,6 +33,7 @@ pub(crate) fn new_site<L: Assumptions, N: Callers>(
 ) -> Option<(MemSite<L, N>, NewCallers<N>)>
     requires places { (places.name ≡ L.name) × (places.parts ≡ L.parts) × (places.parts ≡ limit) }
     requires met { L.met ≡ false }
+    requires installs { L.installs ≡ true }
     requires missing { missing_by (rules_of rules) ≡ L.missing }
     requires parts { (parts.name ≡ N.name) × (parts.parts ≡ N.parts) × (parts.parts ≡ callers) }
     requires callers { N.before ≡ 0 }

@@ -3,13 +3,13 @@ ghost use Rattle.std.specs.Prelude.{◌≡◌, Ok, Err, IfErr, OnOk};
 ghost use Rattle.ucspi.specs.Ends.{told_of};
 ghost use Rattle.server_yard.specs.Yards.{HasRun};
 
-use crate::serving::Closed;
+use crate::serving::AtEnd;
 use server_parts::{ServerFailure, ServerFault};
+use server_yard::Places;
 use tcp_connections::ServeEnd;
-use tcp_service::Host;
 
-/// A server has served as many connections as its words say, or all for which there are numbers, and is closed. Only
-/// what such a server gave makes one.
+/// A server has served as many connections as its words say, or all for which there are numbers. Only what such a
+/// server gave makes one.
 #[derive(Drop)]
 pub struct Finished(());
 
@@ -24,13 +24,13 @@ pub(crate) struct Last {
 }
 
 // How the tool ends, by how its server did, what its yard was then, and the system's last fault of accepting. The
-// events of its site were a run.
-pub(crate) fn end_of<H: Host>(served: Closed<H>) -> Result<Finished, ServerFailure>
+// events of its yard were a run.
+pub(crate) fn end_of<L: Places>(served: AtEnd<L>) -> Result<Finished, ServerFailure>
     ensures ran { HasRun served.yard }
     ensures finished { OnOk result (told_of served.last served.end served.faults.last ≡ Ok tt) }
     ensures closed { IfErr result (λ failure. told_of served.last served.end served.faults.last ≡ Err failure) }
 {
-    let Closed {
+    let AtEnd {
         end,
         last,
         yard,

@@ -2,8 +2,8 @@
 //!
 //! This stands in the program's crate because whoever names `Workers::serve_through` loads all proofs behind it.
 ghost use Rattle.std.specs.Option.{ForSome};
-ghost use Rattle.std.specs.Prelude.{◌≡◌, ◌≤◌, Some};
-ghost use Rattle.server_yard.specs.Yards.{HasRun, yard_books, yard_missing, yard_server};
+ghost use Rattle.std.specs.Prelude.{◌≡◌, ◌≤◌, Some, false};
+ghost use Rattle.server_yard.specs.Yards.{HasRun, yard_books, yard_server};
 ghost use Rattle.tcp_connections.specs.Admissions.{FailedToAccept, suffices};
 ghost use Rattle.tcp_connections.specs.declared.serving.ServeEnd.TheVariants.{AcceptFaults, Count};
 ghost use Rattle.tcp_service.specs.Openings.{IsFoundFor};
@@ -12,46 +12,46 @@ ghost use Rattle.ucspi.specs.Ends.{last_of};
 
 use crate::ends::{Finished, Last, end_of};
 use child_jobs::Plan;
+use rule_lookup::WhenMissing;
 use server_log::Log;
 use server_parts::ServerFailure;
-use shared_site::{Site, YardOf};
+use server_yard::{NoNumbers, Places, Yard};
 use std::alloc::Global;
 use std::sync::Mutex;
 use std::thread::Threads;
 use std::time::Clock;
 use tcp_connections::{Accepted, Acceptor, Faults, ServeEnd, Supply, Workers};
-use tcp_service::{Context, Host, NoNumbers, Server, Service};
+use tcp_service::{Context, Host, Server, Service};
 
-/// A server that has come to its end: nobody is let in any more, its threads have ended, and its site is closed. By
-/// faults of accepting it ended only if a hundred came since the last connection, or if there were too few descriptors
-/// for one connection.
+/// A server that has come to its end: nobody is let in any more, and its threads have ended. By faults of accepting it
+/// ended only if a hundred came since the last connection, or if there were too few descriptors for one connection.
 #[derive(Drop)]
-pub(crate) struct Closed<H: Host> {
+pub(crate) struct AtEnd<L: Places> {
     /// How it ended.
     pub end: ServeEnd<NoNumbers>,
     /// What its yard was like then.
     pub last: Last,
-    /// What its site was made of, with all that happened.
-    pub yard: YardOf<H>,
+    /// That yard, with all that happened.
+    pub yard: Yard<L>,
     /// The faults of accepting that came last in succession.
     pub faults: Faults,
     // how many it let in, and what the system gave it
     let_in: u64,
     supply: Supply,
     pub ghost seen: { last ≡ last_of let_in (yard_books yard) (yard_server yard) },
-    pub ghost by_count: { end ≡ Count → H.admissions ≡ Some let_in },
-    pub ghost most: { ForSome H.admissions (λ most. let_in ≤ most) },
+    pub ghost by_count: { end ≡ Count → L.admissions ≡ Some let_in },
+    pub ghost most: { ForSome L.admissions (λ most. let_in ≤ most) },
     pub ghost by_faults: { end ≡ AcceptFaults → ∥ FailedToAccept (suffices supply) faults.count ∥₁ },
     // its events are a run of a server
     pub ghost ran: { HasRun yard },
 }
 
-/// Serves connections at a site over this yard, which has had no event, until it comes to an end, waits until all that
-/// were let in are over, and closes the site. It answers how the tool ends by what that gave (`Closed`).
+/// Serves connections in this yard, which has had no event and notes no installations, until it comes to an end, and
+/// waits until all that were let in are over. It answers how the tool ends by what that gave (`AtEnd`).
 ///
 /// `plan` is what each connection is served by. A connection is asked for nothing but the plan's program, once its
-/// client was greeted, with the variables of a decision to allow. Each connection opens `rules` for itself. Once no
-/// more connections are let in, the acceptor is dropped.
+/// client was greeted, with the variables of a decision to allow. Each connection opens `rules` for itself, and
+/// `missing` is what is decided where no file stands. Once no more connections are let in, the acceptor is dropped.
 ///
 /// # Errors
 /// Those of `end_of`.
@@ -59,8 +59,9 @@ pub(crate) fn serve<'a, H, A>(
     rt: &'a H::Runtime,
     alloc: Global,
     acceptor: A,
-    yard: YardOf<H>,
+    yard: Yard<H::Places>,
     rules: &'a H::Rules,
+    missing: WhenMissing,
     plan: &'a Plan,
     service: &'a Service,
     log: &'a Mutex<Log<H::Lines>>,
@@ -77,20 +78,22 @@ where
     H::Job: Send,
     A: Acceptor<Came = Accepted<H::Connection>> + Send + Drop,
     requires new { (yard_books yard).count ≡ 0 }
-    requires count { H.admissions ≡ service.now.limits.count }
-    requires missing { yard_missing yard ≡ H.missing }
-    requires may { MayStartEach (IsFoundFor (H.Rules.gives rules.now) H.Handle.opened H.missing)
+    requires serves { H.Places.installs ≡ false }
+    requires count { H.Places.admissions ≡ service.now.limits.count }
+    requires missing { missing ≡ H.Places.missing }
+    requires may { MayStartEach (IsFoundFor (H.Rules.gives rules.now) H.Handle.opened H.Places.missing)
         H.File.honest H.File.sound plan.now H.Connection.contents H.Connection.may }
 {
     let live = yard.live();
     let _ = log.lock(rt).status(live);
-    let site = Site::<H>::new(yard);
+    let yard = Mutex::new(yard);
     let server = Server::<H> {
         context: Context {
             rt,
             alloc,
-            site: &site,
+            yard: &yard,
             rules,
+            missing,
             plan,
             log,
         },
@@ -107,30 +110,32 @@ where
         supply,
         &service.reserve,
     );
-    end_of(close(end, let_in, faults, supply, site))
+    drop(server);
+    end_of(at_end(end, let_in, faults, supply, yard.into_inner()))
 }
 
-// Closes a site, and looks at its yard.
-fn close<H: Host>(
+// Looks at a yard at the end of its server.
+fn at_end<L: Places>(
     end: ServeEnd<NoNumbers>,
     let_in: u64,
     faults: Faults,
     supply: Supply,
-    site: Site<H>,
-) -> Closed<H>
+    yard: Yard<L>,
+) -> AtEnd<L>
+    requires serves { L.installs ≡ false }
     requires faults { end ≡ AcceptFaults → FailedToAccept (suffices supply) faults.count }
-    requires count { end ≡ Count → H.admissions ≡ Some let_in }
-    requires most { ForSome H.admissions (λ most. let_in ≤ most) }
+    requires count { end ≡ Count → L.admissions ≡ Some let_in }
+    requires most { ForSome L.admissions (λ most. let_in ≤ most) }
     ensures end { result.end ≡ end }
     ensures faults { result.faults ≡ faults }
 {
-    let yard = site.close();
+    yard.ran();
     let report = yard.journal().report();
     let last = Last {
         has_lost: report.retired != yard.live() || report.admitted != let_in,
         is_retired: report.retired >= yard.limit(),
     };
-    Closed {
+    AtEnd {
         end,
         last,
         yard,

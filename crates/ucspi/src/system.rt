@@ -1,7 +1,5 @@
 //! What the tool has of the system, and what its server stands on.
-ghost use Rattle.std.specs.Prelude.{◌≡◌, ⊤, ℕ, List, None, Option, IfOk, IfErr};
-ghost use Rattle.rule_lookup.specs.declared.decision.WhenMissing.{WhenMissing};
-ghost use Rattle.rule_lookup.specs.declared.decision.WhenMissing.TheVariants.{Allow};
+ghost use Rattle.std.specs.Prelude.{◌≡◌, ⊤, ℕ, List, IfOk, IfErr};
 ghost use Rattle.server_parts.specs.declared.fault.ServerFault.TheVariants.{CannotListen};
 
 use crate::rules::{FolderHandle, FolderRules};
@@ -9,14 +7,13 @@ use byte_streams::Patient;
 use dir_disk::{NoWait, SystemDisk};
 use server_parts::opening::listen;
 use server_parts::{RulesOnDisk, ServerFailure};
-use shared_site::Ground;
+use server_yard::Places;
 use std::fs::{File, Files};
 use std::io::{Read, Write};
-use std::marker::{Brand, PhantomData};
+use std::marker::PhantomData;
 use std::net::{Net, OpenListener, TcpStream};
 use std::process::{ChildStdin, OpenProcess, Processes};
 use std::rt::Env;
-use std::sync::ledger::Ledger;
 use std::sync::{Mutex, Wait};
 use std::thread::Threads;
 use std::time::Clock;
@@ -112,35 +109,15 @@ where
     }
 }
 
-/// The ledger of the places of a server's connections. It also says how many the server is to let in, if there is such
-/// a number, and what it decides where no rules file stands.
-pub(crate) trait Places: Ledger {
-    /// How many it is to let in.
-    ghost admissions: { Option ℕ };
-
-    /// What it decides without a rules file.
-    ghost missing: { WhenMissing };
-}
-
-impl Places for Brand {
-    ghost admissions = { None };
-
-    ghost missing = { Allow };
-}
-
 /// What a server stands on, over this ledger.
 pub(crate) struct OnSystem<'a, P: System, L>(PhantomData<(&'a P::Runtime, &'a P::Errors, L)>);
 
-impl<'a, P: System, L: Places + Send + Sync> Ground for OnSystem<'a, P, L> {
+impl<'a, P: System, L: Places + Send + Sync> ServiceGround for OnSystem<'a, P, L> {
+    type Runtime = P::Runtime;
+
     type Places = L;
 
     type File = RulesOnDisk;
-
-    ghost missing = { L.missing };
-}
-
-impl<'a, P: System, L: Places + Send + Sync> ServiceGround for OnSystem<'a, P, L> {
-    type Runtime = P::Runtime;
 
     type Handle = FolderHandle<'a, SystemDisk<&'a P::Runtime, NoWait>>;
 
@@ -153,6 +130,4 @@ impl<'a, P: System, L: Places + Send + Sync> Host for OnSystem<'a, P, L> {
     type Connection = Connection<'a, P::Runtime, P::Errors>;
 
     type Job = ServiceJob<'a, P::Runtime, P::Errors>;
-
-    ghost admissions = { L.admissions };
 }

@@ -1,5 +1,5 @@
 //! The tool: its words, what it opens, and the server.
-ghost use Rattle.std.specs.Prelude.{◌≡◌, ◌⊎◌, map, IfOk, IfErr};
+ghost use Rattle.std.specs.Prelude.{◌≡◌, ◌⊎◌, false, map, IfOk, IfErr};
 ghost use Rattle.fault_hints.specs.Voices.{mode_by_name};
 ghost use Rattle.server_parts.specs.Asked.{FailsNames};
 ghost use Rattle.server_parts.specs.RulesPaths.{AreRulesOf, rules_missing};
@@ -8,14 +8,14 @@ ghost use Rattle.ucspi.specs.Asked.{AcceptsAsAsked, AreAsked, AreAskedLimits, Is
 ghost use Rattle.ucspi.specs.Words.{AnswersWords};
 ghost use Rattle.server_words.specs.Operands.{texts};
 ghost use Rattle.server_words.specs.Plans.{plan_of as plan_by_words};
-ghost use Rattle.server_yard.specs.Yards.{yard_books, yard_missing, yard_server};
+ghost use Rattle.server_yard.specs.Yards.{yard_books, yard_server};
 ghost use Rattle.stream_tools.specs.Programs.{text_in, texts_of};
 ghost use Rattle.tcp_streams.specs.Asked.{IsAskedPassing, passing_of};
 
 use crate::ends::Finished;
 use crate::rules::FolderRules;
 use crate::serving::serve;
-use crate::system::{OnSystem, Places, System, SystemOf};
+use crate::system::{OnSystem, System, SystemOf};
 use byte_streams::Patient;
 use child_jobs::Plan;
 use fault_hints::{Voice, append_help};
@@ -27,7 +27,7 @@ use server_parts::opening::{hold_standard, names_of, plan_of, print_port};
 use server_parts::signals::forgets_programs;
 use server_parts::{RulesPath, ServerFailure, ServerFault, TcpserverFault};
 use server_words::{Level, ServerWords, read_server_words};
-use server_yard::Yard;
+use server_yard::{Places, Yard};
 use std::alloc::Global;
 use std::fs::{File, Files};
 use std::io::Write;
@@ -35,7 +35,7 @@ use std::marker::Brand;
 use std::net::{Net, OpenListener, SocketAddr, TcpStream};
 use std::process::{ChildStdin, OpenProcess, Processes};
 use std::rt::Env;
-use std::sync::ledger::{Blank, Ledger};
+use std::sync::ledger::Blank;
 use std::sync::{Mutex, Wait};
 use std::thread::Threads;
 use std::time::Clock;
@@ -78,7 +78,7 @@ where
     run_words::<SystemOf<'_, R, E>>(rt, (lines, errors), texts.as_slice(), voice, causes)
 }
 
-// What a server has but for its site and its socket.
+// What a server has but for its yard and its socket.
 #[derive(Drop)]
 struct ServerParts<'a, W> {
     plan: Plan,
@@ -133,7 +133,7 @@ fn run_server<P: System + Send + Sync>(
     open_and_run::<P>(rt, errors, &server, words)
 }
 
-// What a server has by its words, but for its site and its socket.
+// What a server has by its words, but for its yard and its socket.
 fn parts_of<'a, R: Env + AllocGlobal + Files, W: Write + Drop>(
     rt: &R,
     lines: W,
@@ -190,7 +190,7 @@ fn open_and_run<'a, P: System + Send + Sync>(
     let starter = ProgramStarter::new(rt, search, reserve, server.passing, errors);
     let acceptor = open_socket::<P>(rt, &server.log, words, &starter)?;
     let places = Blank::new(words.limits().connections);
-    let run = run_site::<Brand, P>(rt, server, acceptor, &rules, words, places);
+    let run = run_in_yard::<Brand, P>(rt, server, acceptor, &rules, words, places);
     drop(rules);
     run
 }
@@ -242,7 +242,7 @@ fn tell_names<R: Files<File = File> + Wait, E: Write + Drop>(
 }
 
 // The server over a yard of its own, which serves by what was made of the words.
-fn run_site<'a, L: Places + Send + Sync, P: System + Send + Sync>(
+fn run_in_yard<'a, L: Places + Send + Sync, P: System + Send + Sync>(
     rt: &'a P::Runtime,
     server: &'a ServerParts<'_, P::Lines>,
     acceptor: AcceptorOn<'a, P>,
@@ -252,6 +252,7 @@ fn run_site<'a, L: Places + Send + Sync, P: System + Send + Sync>(
 ) -> Result<Finished, ServerFailure>
     requires places { (places.name ≡ L.name) × (places.parts ≡ L.parts)
         × (places.parts ≡ words.now.limits.connections) }
+    requires serves { L.installs ≡ false }
     requires count { L.admissions ≡ server.now.service.limits.count }
     requires missing { L.missing ≡ rules_missing rules.now }
     requires asked { AreAsked words.now server.now.plan server.now.service server.now.passing }
@@ -260,7 +261,8 @@ fn run_site<'a, L: Places + Send + Sync, P: System + Send + Sync>(
 {
     let alloc = rt.alloc();
     tell_names(rt, alloc, &server.log, rules, words);
-    let yard = yard_of::<L, P::Runtime>(alloc, rules, words, places)?;
+    let yard = yard_of::<L>(alloc, words, places)?;
+    let missing = rules.missing();
     let rules = FolderRules(rules);
     serve::<OnSystem<'a, P, L>, AcceptorOn<'a, P>>(
         rt,
@@ -268,16 +270,16 @@ fn run_site<'a, L: Places + Send + Sync, P: System + Send + Sync>(
         acceptor,
         yard,
         &rules,
+        missing,
         &server.plan,
         &server.service,
         &server.log,
     )
 }
 
-// A yard of a server with these rules, with the limits of the words.
-fn yard_of<L: Ledger, R: Files<File = File>>(
+// A yard of a server, with the limits of the words.
+fn yard_of<L: Places>(
     alloc: Global,
-    rules: &RulesPath<'_, R>,
     words: &ServerWords<'_>,
     places: Blank,
 ) -> Result<Yard<L>, ServerFault>
@@ -285,20 +287,18 @@ fn yard_of<L: Ledger, R: Files<File = File>>(
         × (places.parts ≡ words.now.limits.connections) }
     ensures limits { IfOk result (λ yard.
         AreAskedLimits words.now (yard_server yard).limit (yard_server yard).per_address) }
-    ensures missing { IfOk result (λ yard. yard_missing yard ≡ rules_missing rules.now) }
     ensures new { IfOk result (λ yard. (yard_books yard).count ≡ 0) }
     ensures refused { IfErr result (λ fault. fault ≡ OutOfMemory) }
 {
     let limits = words.limits();
-    let made = Yard::<L>::new(
+    let journal = Journal::counting();
+    match Yard::<L>::new(
         alloc,
         places,
-        rules.missing(),
         limits.connections,
         limits.per_address,
-        Journal::counting(),
-    );
-    match made {
+        journal,
+    ) {
         Ok(yard) => Ok(yard),
         Err(_) => Err(ServerFault::OutOfMemory),
     }

@@ -7,7 +7,7 @@ use Rattle.std.proofs.lemmas.Bool.Decides.{nat_tests}
 use Rattle.std.proofs.lemmas.Option.{get_or_from_slice_get, none-some, same_Some, slice_get-get_or, slice_get_within}
 use Rattle.server_events.specs.declared.journal.Noted.{Noted}
 use Rattle.whole_yard.specs.Audits.{AreOthersUpTo, AreRight, IsAbove, Rise, StandsAtItsPosition, note_at, note_of}
-use Rattle.shared_site.specs.declared.receipt.Receipt.{Receipt}
+use Rattle.whole_yard.specs.declared.receipt.Receipt.{Receipt}
 use Rattle.whole_yard.proofs.Placed.{all_placed, placed_from}
 
 if_some : {X : Type 0} (o : Option X) (x : X) (P : X → Type 0) → o ≡ Some x → IfSome o P → P x

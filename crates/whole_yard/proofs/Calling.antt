@@ -6,24 +6,25 @@ use Rattle.rules_install.specs.Installing.{Installing}
 use Rattle.dir_calls.specs.declared.phase.Phase.{Phase}
 use Rattle.rules_install.specs.declared.fault.InstallFault.{InstallFault}
 use Rattle.server_events.specs.declared.event.Event.{Event}
+use Rattle.server_yard.specs.Evidence.{IsLast, IsNoted}
 use Rattle.server_yard.specs.Rolls.{Notes, NotesSome, Roll}
 use Rattle.whole_yard.specs.Stepping.{event_of_step, step_event}
 use Rattle.whole_yard.specs.WholeYards.{IsSameBesides, IsSameButDirectory, MayBegin, kept_under, last_begun, name_of, whole_roll, whole_rules, whole_state}
 use Rattle.whole_yard.specs.declared.yard.WholeYard.{WholeYard}
-use Rattle.shared_site.specs.Receipts.{receipt_after, receipt_at, receipt_of}
-use Rattle.shared_site.specs.declared.receipt.Made.{Made}
-use Rattle.whole_yard.specs.Callers.{CountsAtMostOne, IsLastOf, NotesBy, spoken_by}
+use Rattle.whole_yard.specs.Receipts.{receipt_after, receipt_at, receipt_of}
+use Rattle.server_yard.specs.declared.evidence.Made.{Made}
+use Rattle.whole_yard.specs.Callers.{CountsAtMostOne, NotesBy, spoken_by}
 use Rattle.whole_yard.proofs.Counts.{one_counted, quiet_counted}
 
 -- who speaks is nothing that worlds see
-pub spoken_state : {L D F : Type 0} {p : _} {l : _} {d : _} (who : ℕ)
-    (old mid : WholeYard L D F p l d) → whole_roll mid ≡ spoken_by who (whole_roll old) → IsSameBesides old mid
+pub spoken_state : {L D F : Type 0} {p : _} {q : _} {l : _} {d : _} (who : ℕ)
+    (old mid : WholeYard L D F p q l d) → whole_roll mid ≡ spoken_by who (whole_roll old) → IsSameBesides old mid
     → whole_state mid ≡ whole_state old
 spoken_state {l = l} who old mid speaks same =
     λ i. record { directory = l.state (same.directory i); rules = same.rules i; server = (speaks i).server; installing = same.installing i }
 
 -- what a call keeps is as it was before its caller spoke
-pub same_from : {L D F : Type 0} {p : _} {l : _} {d : _} (old mid new : WholeYard L D F p l d)
+pub same_from : {L D F : Type 0} {p : _} {q : _} {l : _} {d : _} (old mid new : WholeYard L D F p q l d)
     → IsSameBesides old mid → IsSameButDirectory mid new → IsSameButDirectory old new
 same_from old mid new spoken same = record {
   rules = same.rules ∙ spoken.rules;
@@ -34,7 +35,7 @@ same_from old mid new spoken same = record {
 }
 
 -- an installation that may begin may still
-pub may_begin_from : {L D F : Type 0} {p : _} {l : _} {d : _} (y x : WholeYard L D F p l d) (s : Installing)
+pub may_begin_from : {L D F : Type 0} {p : _} {q : _} {l : _} {d : _} (y x : WholeYard L D F p q l d) (s : Installing)
     → whole_rules x ≡ whole_rules y → last_begun x ≡ last_begun y → MayBegin y s → MayBegin x s
 may_begin_from y x s rules begun may = record {
   unbegun = may.unbegun;
@@ -44,17 +45,17 @@ may_begin_from y x s rules begun may = record {
 }
 
 -- and the one that is kept is as far as it was
-pub spoken_kept : {L D F : Type 0} {p : _} {l : _} {d : _} (old mid : WholeYard L D F p l d) (number : ℕ)
+pub spoken_kept : {L D F : Type 0} {p : _} {q : _} {l : _} {d : _} (old mid : WholeYard L D F p q l d) (number : ℕ)
     → IsSameBesides old mid → kept_under mid number ≡ kept_under old number
 spoken_kept old mid number same = λ i. if same.begun i == number then same.installing i else None
 
 -- the receipt of an event is that of the one after those before
 pub noted_receipt : (event : Option Event) (who : ℕ) (x y z : Roll)
     → y ≡ spoken_by who x → NotesSome event y z
-    → option_map (receipt_at z.books.count who) event ≡ option_map (receipt_after x.books.count who) event
+    → option_map (receipt_at z.books.count z.speaker) event ≡ option_map (receipt_after x.books.count who) event
 noted_receipt None who x y z speaks noted = refl
 noted_receipt (Some e) who x y z speaks noted =
-    ap (λ (n : ℕ). Some (receipt_at n who e)) (noted.counts ∙ ap (λ (r : Roll). one_more r.books.count) speaks)
+    (λ i. Some (receipt_at (noted.counts i) (noted.speaks i) e)) ∙ ap (λ (r : Roll). Some (receipt_after r.books.count r.speaker e)) speaks
 
 -- a step is an event where the installation is under way
 pub event_if : (kept : Option Installing) (answer : Result Phase InstallFault) → (if is_some kept then step_event answer else None) ≡ event_of_step kept answer
@@ -71,21 +72,14 @@ some_counted who (Some event) old mid new speaks noted = one_counted who event o
 pub noted_by : (who : ℕ) (event : Event) (old mid new : Roll) → mid ≡ spoken_by who old → Notes event mid new → NotesBy who event old new
 noted_by who event old mid new speaks noted = subst (λ (r : Roll). Notes event r new) speaks noted
 
-pub last_of : (who : ℕ) (event shown : Event) (old mid new : Roll) → mid ≡ spoken_by who old → Notes event mid new → shown ≡ event
-    → IsLastOf who shown new
-last_of who event shown old mid new speaks noted same = record {
-  before = old;
-  noted = subst (λ (e : Event). NotesBy who e old new) (sym same) (noted_by who event old mid new speaks noted);
-}
-
 -- what its evidence says
-pub answered : (who : ℕ) (event shown : Event) (made : Made) (old new : Roll) → NotesBy who event old new → shown ≡ event
-    → receipt_of made ≡ receipt_at new.books.count who shown
+pub answered : (who : ℕ) (event : Event) (made : Made) (old mid new : Roll) → mid ≡ spoken_by who old → IsNoted event made mid new
     → (receipt_of made ≡ receipt_after old.books.count who event) × (new.books.count ≡ one_more old.books.count)
-answered who event shown made old new noted same is = (is ∙ (λ i. receipt_at (noted.counts i) who (same i)), noted.counts)
+answered who event made old mid new speaks noted =
+    subst (λ (r : Roll). (receipt_of made ≡ receipt_after r.books.count r.speaker event) × (new.books.count ≡ one_more r.books.count)) speaks
+    ((λ i. receipt_at ((noted.last ∙ noted.noted.counts) i) (noted.for_speaker i) (noted.its i)), noted.noted.counts)
 
--- and that event is the last one
-pub last_of_some : (who : ℕ) (event : Option Event) (old mid new : Roll)
-    → mid ≡ spoken_by who old → NotesSome event mid new → IfSome event (λ (e : Event). IsLastOf who e new)
-last_of_some who None old mid new speaks noted = tt
-last_of_some who (Some event) old mid new speaks noted = last_of who event event old mid new speaks noted refl
+-- the event of a call is the last one
+pub last_of_some : (event : Option Event) (old new : Roll) → NotesSome event old new → IfSome event (λ (e : Event). IsLast e new)
+last_of_some None old new noted = tt
+last_of_some (Some event) old new noted = record { before = old; noted = noted }

@@ -8,10 +8,11 @@ use Rattle.rules_install.specs.declared.fault.InstallFault.{InstallFault}
 use Rattle.server_events.specs.declared.event.Event.{Event}
 use Rattle.server_yard.specs.Rolls.{NotesSome, Roll}
 use Rattle.whole_yard.specs.Stepping.{event_of_step, step_event}
-use Rattle.shared_site.specs.Receipts.{made_event, receipt_after, receipt_of}
+use Rattle.server_yard.specs.Evidence.{made_event}
+use Rattle.whole_yard.specs.Receipts.{receipt_after, receipt_of}
 use Rattle.whole_yard.specs.Callers.{spoken_by}
-use Rattle.shared_site.specs.declared.receipt.Made.{Made}
-use Rattle.shared_site.specs.declared.receipt.Receipt.{Receipt}
+use Rattle.server_yard.specs.declared.evidence.Made.{Made}
+use Rattle.whole_yard.specs.declared.receipt.Receipt.{Receipt}
 use Rattle.whole_yard.specs.YardTurns.{CountsMade}
 
 -- one more where it was an event, and else none

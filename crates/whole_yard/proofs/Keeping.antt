@@ -12,9 +12,14 @@ use Rattle.headline.specs.Worlds.{RulesName, StandsFor}
 use Rattle.server_events.specs.declared.event.Event.{Event}
 use Rattle.headline.proofs.WholeText.{reached_whole}
 use Rattle.whole_yard.specs.Installed.{KeepsHistory, IsWholeFile, installs_of}
+use Rattle.server_yard.specs.Evidence.{Makes}
 use Rattle.server_yard.specs.Passes.{trust_in}
 use Rattle.server_yard.specs.Rolls.{Notes, Roll}
-use Rattle.shared_site.specs.Turns.{NotesTold}
+use Rattle.server_yard.specs.Yards.{yard_roll}
+use Rattle.server_yard.specs.declared.evidence.Made.{Made}
+use Rattle.server_yard.specs.declared.evidence.OutOfTurn.{OutOfTurn}
+use Rattle.server_yard.specs.declared.yard.Yard.{Yard}
+use Rattle.whole_yard.specs.ConnectionTurns.{NotesTold, told_if_made}
 use Rattle.rules_install.specs.Installing.{Installing}
 use Rattle.whole_yard.specs.Serving.{with_roll}
 use Rattle.whole_yard.specs.Standing.{YardState}
@@ -61,7 +66,7 @@ kept_on {b} {b'} {y} {y'} {e} {caller} own l same r i more k = record {
 }
 
 -- a yard that is the same beside its events is so over its directory
-pub own_then : {L D F : Type 0} {p : _} {l : _} {d : _} (old new : WholeYard L D F p l d) → IsSameBesides old new
+pub own_then : {L D F : Type 0} {p : _} {q : _} {l : _} {d : _} (old new : WholeYard L D F p q l d) → IsSameBesides old new
     → whole_state new ≡ with_roll (whole_state old) (whole_roll new)
 own_then {l = l} old new same = λ i.
     let y : YardState = record { directory = l.state (same.directory i); rules = same.rules i; server = (whole_roll new).server; installing = same.installing i } in y
@@ -111,6 +116,15 @@ kept_told None old new quiet small lists d rules i k =
     kept_quiet quiet.tells quiet.counts quiet.stores lists quiet.stays refl refl refl k
 kept_told (Some e) old new noted small lists d rules i k =
     kept_on noted.0 lists refl refl refl (one_more_of e old new small noted.2 noted.1) k
+
+-- and what a yard's call of its event tells is so
+pub makes_told : {L : Type 0} {p : _} (event : Event) (answer : Result Made OutOfTurn) (old new : Yard L p)
+    → is_connections event ≡ true → FitsSerial event → Makes event answer old new
+    → NotesTold (told_if_made event answer) (yard_roll old) (yard_roll new)
+makes_told event (Ok made) old new own fits makes = (own, makes.made.noted, fits)
+makes_told event (Err refusal) old new own fits makes =
+    subst (λ (r : Roll). NotesTold None (yard_roll old) r) (sym (ap (λ y. yard_roll y) makes.out.1))
+    (record { stays = refl; speaks = refl; tells = refl; counts = refl; stores = refl })
 
 pub is_some-map : {X Y : Type 0} (f : X → Y) (o : Option X) → is_some (option_map f o) ≡ is_some o
 is_some-map f None = refl

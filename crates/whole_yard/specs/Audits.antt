@@ -1,7 +1,7 @@
 -- Receipts against a history.
 use Rattle.std.specs.Prelude.{◌≡◌, ◌≢◌, ◌==◌, ◌-◌, ◌<◌, ℕ, All, List, Option, IfSome, None, Some, if◌then◌else◌, length, slice_get, take}
 use Rattle.server_events.specs.declared.journal.Noted.{Noted}
-use Rattle.shared_site.specs.declared.receipt.Receipt.{Receipt}
+use Rattle.whole_yard.specs.declared.receipt.Receipt.{Receipt}
 
 -- what a receipt says of a history: this event, by this caller
 abbrev pub note_of : Receipt → Noted

@@ -26,11 +26,6 @@ spoken_by who roll = record roll { speaker = who }
 abbrev pub NotesBy : ℕ → Event → (old new : Roll) → Type 0
 NotesBy who event old new = Notes event (spoken_by who old) new
 
--- this event was noted last, as this caller's
-pub record IsLastOf (who : ℕ) (event : Event) (roll : Roll) : Type 0 where
-  pub before : Roll
-  pub noted : NotesBy who event before roll
-
 -- a turn makes one event or none; a journal that only counts stays at its last number
 abbrev pub CountsAtMostOne : (old new : ℕ) → Type 0
 CountsAtMostOne old new = (new ≡ old) ⊎ (new ≡ one_more old)

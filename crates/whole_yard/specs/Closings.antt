@@ -3,7 +3,7 @@ use Rattle.std.specs.Prelude.{◌≡◌, ◌≢◌, List, Option, None, Some, Is
 use Rattle.server_events.specs.declared.journal.Noted.{Noted}
 use Rattle.whole_yard.specs.declared.closing.NotWhole.{NotWhole}
 use Rattle.whole_yard.specs.Audits.{AreRight, IsFirstWrong, note_of}
-use Rattle.shared_site.specs.declared.receipt.Receipt.{Receipt}
+use Rattle.whole_yard.specs.declared.receipt.Receipt.{Receipt}
 
 -- a journal stores a history, and they are all of it: each event with its caller, once
 abbrev pub IsWhole : Option (List Noted) → List Receipt → Type 0

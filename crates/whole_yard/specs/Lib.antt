@@ -1,6 +1,8 @@
 -- A yard that makes all calls: the connections of a server and installations beside them, what the headline's worlds
 -- see of both, its callers, and whether receipts are its history.
+pub mod Receipts
 pub mod Callers
+pub mod ConnectionTurns
 pub mod UnderWay
 pub mod Series
 pub mod Standing

@@ -1,21 +1,23 @@
 -- What turns answer by which a yard itself opens the rules, or makes a step of an installation.
-use Rattle.std.specs.Prelude.{◌≡◌, ◌+◌, ◌-◌, ◌^◌, ◌⊎◌, ℕ, Option, None, Some, Result, Err, IfErr, IfOk, IfSome, OnErr, option_map}
+use Rattle.std.specs.Prelude.{◌≡◌, ◌+◌, ◌-◌, ◌^◌, ◌⊎◌, ℕ, Option, None, Some, Result, Err, IfErr, IfOk, IfSome, OnErr, is_some, option_map}
 use Rattle.server_events.specs.Journals.{one_more}
 use Rattle.rules_install.specs.Installing.{Installing}
 use Rattle.rules_install.specs.Installs.{installing}
 use Rattle.dir_calls.specs.declared.phase.Phase.{Phase}
 use Rattle.rules_install.specs.declared.fault.InstallFault.{InstallFault}
 use Rattle.rules_install.specs.declared.install.Install.{Install}
-use Rattle.server_yard.specs.Passes.{pass_serial}
+use Rattle.server_events.specs.declared.event.Event.{Event}
+use Rattle.server_events.specs.declared.event.Event.TheVariants.{Opened}
+use Rattle.server_yard.specs.Evidence.{made_event}
+use Rattle.server_yard.specs.Passes.{pass_file, pass_serial}
 use Rattle.whole_yard.specs.Stepping.{BeginAnswer, HandsBack, begin_event, step_event}
 use Rattle.server_yard.specs.declared.pass.Pass.{Pass}
-use Rattle.shared_site.specs.Receipts.{made_event, receipt_after, receipt_of}
+use Rattle.server_yard.specs.declared.evidence.Made.{Made}
 use Rattle.server_yard.specs.Seating.{KeepsSeats}
-use Rattle.shared_site.specs.Turns.{opened_by}
 use Rattle.whole_yard.specs.Callers.{spoken_by}
+use Rattle.whole_yard.specs.Receipts.{receipt_after, receipt_of}
 use Rattle.whole_yard.specs.WholeYards.{IsSameBesides, whole_roll, whole_seat}
 use Rattle.whole_yard.specs.declared.yard.WholeYard.{WholeYard}
-use Rattle.shared_site.specs.declared.receipt.Made.{Made}
 use Rattle.whole_yard.specs.declared.open_turn.OpenFault.{OpenFault}
 use Rattle.whole_yard.specs.declared.open_turn.OpenFault.TheVariants.{Device}
 
@@ -28,6 +30,10 @@ CountsMade (Some made) before after = after ≡ one_more before
 abbrev pub CountsDevice : {T : Type 0} → ℕ → ℕ → Result T OpenFault → Type 0
 CountsDevice before now (Err Device) = (now ≡ before + 1) ⊎ ((now ≡ before) × (before ≡ 2 ^ 64 - 1))
 CountsDevice before now result = now ≡ before
+
+-- the event that a connection opened the rules
+abbrev pub opened_by : {L F : Type 0} → (serial : ℕ) → Pass L F → Event
+opened_by serial pass = Opened serial (is_some (pass_file pass))
 
 -- the caller with this number opened the rules for a connection, by the next event after this many; or no event was
 -- made
@@ -54,7 +60,7 @@ StepsOrNot who before answer after =
     × CountsMade answer.1 before after
 
 -- a yard is as before, but for the speaker
-pub record IsOnlySpoken {L D F : Type 0} {p : _} {d : _} {f : _} (who : ℕ) (old new : WholeYard L D F p d f) : Type 0 where
+pub record IsOnlySpoken {L D F : Type 0} {p : _} {l : _} {d : _} {f : _} (who : ℕ) (old new : WholeYard L D F p l d f) : Type 0 where
   pub roll : whole_roll new ≡ spoken_by who (whole_roll old)
   pub beside : IsSameBesides old new
   pub seats : KeepsSeats (whole_seat old) (whole_seat new)

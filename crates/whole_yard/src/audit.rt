@@ -2,9 +2,9 @@
 ghost use Rattle.std.specs.Prelude.{◌↔◌, ◌<◌, IsTrue, IfErr, OnOk, length};
 ghost use Rattle.whole_yard.specs.Audits.{AreRight, AreRightBefore, IsAbove, IsFirstWrong, IsRight, Rise, StandsAtItsPosition};
 
+use crate::receipt::Receipt;
 use crate::same::is_same_event;
 use server_events::Noted;
-use shared_site::Receipt;
 
 /// The position in the list of the first receipt that is wrong, counted from 0.
 #[derive(Clone, Copy)]

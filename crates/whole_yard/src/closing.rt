@@ -9,11 +9,11 @@ use crate::assumptions::Assumptions;
 use crate::audit::{Mismatch, audit};
 use crate::caller::Callers;
 use crate::laws::whole;
+use crate::receipt::Receipt;
 use crate::site::WholeSite;
 use crate::yard::WholeYard;
 use dir_calls::Dir;
-use server_yard::Yard;
-use shared_site::Receipt;
+use server_yard::{Places, Yard};
 use std::sync::ledger::{Ledger, Share};
 
 /// The callers of a site that make no events any more, with the events of all of them.
@@ -44,7 +44,7 @@ pub enum NotWhole {
 /// # Errors
 /// `OnlyCounted` if the journal of the yard stores no events; `Wrong` with the first receipt that is wrong; otherwise
 /// `Missing`.
-pub fn audit_whole<L: Ledger>(yard: &Yard<L>, receipts: &[Receipt]) -> Result<(), NotWhole>
+pub fn audit_whole<L: Places>(yard: &Yard<L>, receipts: &[Receipt]) -> Result<(), NotWhole>
     ensures whole { OnOk result (IsWhole (yard_books yard.now).notes receipts.now) }
     ensures refused { IfErr result (IsNotWhole (yard_books yard.now).notes receipts.now) }
     ensures missing { result ≡ Err Missing → length receipts.now ≢ (yard_books yard.now).count }

@@ -5,13 +5,14 @@ ghost use Rattle.rules_install.specs.Installs.{installing};
 ghost use Rattle.rules_install.specs.Steps.{BlamesDevice, BlamesFault, IsOfDevice};
 ghost use Rattle.dir_calls.specs.declared.phase.Phase.TheVariants.{Done};
 ghost use Rattle.rules_install.specs.declared.fault.InstallFault.TheVariants.{Over};
+ghost use Rattle.server_yard.specs.Evidence.{IsLast};
 ghost use Rattle.server_yard.specs.Rolls.{NotesSome};
 ghost use Rattle.server_yard.specs.Seating.{KeepsSeats};
 ghost use Rattle.whole_yard.specs.Standing.{LeadsSome};
 ghost use Rattle.whole_yard.specs.Stepping.{GoesAsStep, IsRefusedAs, begin_event, event_of_step, fault_event, kept_after_begin, kept_after_step, last_begun_after, lists_after_begin, step_event};
 ghost use Rattle.whole_yard.specs.WholeYards.{LeavesNothingElse, MayBegin, kept_number, kept_under, last_begun, whole_books, whole_directory, whole_installing, whole_roll, whole_rules, whole_seat, whole_state};
-ghost use Rattle.whole_yard.specs.Callers.{CountsAtMostOne, IsLastOf, spoken_by};
-ghost use Rattle.shared_site.specs.Receipts.{receipt_after, receipt_at, receipt_of};
+ghost use Rattle.whole_yard.specs.Callers.{CountsAtMostOne, spoken_by};
+ghost use Rattle.whole_yard.specs.Receipts.{receipt_after, receipt_at, receipt_of};
 ghost use Rattle.whole_yard.specs.YardTurns.{BeginsOrNot, StepsOrNot};
 
 use crate::assumptions::Assumptions;
@@ -20,9 +21,9 @@ use crate::yard::WholeYard;
 use dir_calls::{Dir, Phase};
 use rules_install::{Install, InstallFault};
 use server_events::Event;
-use shared_site::Made;
-use shared_site::receipt::EventSnapshot;
+use server_yard::Made;
 use std::alloc::Global;
+use std::snapshot::Snapshot;
 
 /// Begins an installation, as `WholeYard::install_begin` does. The answer also has the event, if it was one: a first
 /// step, or a fault of the directory.
@@ -70,7 +71,7 @@ impl<L: Assumptions, D: Dir + Drop> WholeTurn<L, D> for InstallBegin {
         let InstallBegin { alloc, install } = self;
         yard.speaker(caller);
         let answer = yard.install_begin(alloc, install);
-        let made = evidence(yard, caller, begin_event(&answer));
+        let made = evidence(yard, begin_event(&answer));
         (answer, made)
     }
 }
@@ -127,21 +128,21 @@ impl<L: Assumptions, D: Dir + Drop> WholeTurn<L, D> for InstallStep {
         yard.speaker(caller);
         let under_way = yard.is_under_way(number);
         let answer = yard.install_step(alloc, number);
-        let made = evidence(yard, caller, step_event(under_way, answer));
+        let made = evidence(yard, step_event(under_way, answer));
         (answer, made)
     }
 }
 
-// Evidence of the event that a caller made last, if it made one.
+// Evidence of a call's event, if it was one.
 fn evidence<L: Assumptions, D: Dir + Drop>(
     yard: &WholeYard<L, D>,
-    caller: u64,
     event: Option<Event>,
 ) -> Option<Made>
-    requires { IfSome event (λ event. IsLastOf caller event (whole_roll yard.now)) }
-    ensures { option_map receipt_of result ≡ option_map (receipt_at (whole_books yard.now).count caller) event }
+    requires { IfSome event (λ event. IsLast event (whole_roll yard.now)) }
+    ensures { option_map receipt_of result
+        ≡ option_map (receipt_at (whole_books yard.now).count (whole_roll yard.now).speaker) event }
 {
-    Some(yard.made(caller, EventSnapshot::of(event?)))
+    Some(yard.connections().evidence(Snapshot::of(&event?)))
 }
 
 // Which event a first step was, if it was one.

@@ -13,7 +13,7 @@ ghost use Rattle.server_events.specs.ServerState.{ServerState, start, HasStage, 
 ghost use Rattle.headline.specs.Worlds.{KeptFile, World, missing_by};
 ghost use Rattle.server_events.specs.declared.event.Event.{Event};
 ghost use Rattle.server_events.specs.declared.journal.Noted.{Noted};
-ghost use Rattle.shared_site.specs.declared.receipt.Receipt.{Receipt as TheReceipt};
+ghost use Rattle.whole_yard.specs.declared.receipt.Receipt.{Receipt as TheReceipt};
 ghost use Rattle.whole_yard.specs.Audits.{AreOthersUpTo, AreRight, note_of};
 ghost use Rattle.server_events.specs.declared.event.Event.TheVariants.{Decided, Opened};
 ghost use Rattle.server_events.specs.declared.event.Stage.TheVariants as Stage;
@@ -54,11 +54,11 @@ pub fn beside()
 
 /// Each event of a connection that a yard notes is a step of the headline, over whatever directory others left.
 ///
-/// By a call's clause `noted` its event is noted between the yard's rolls before and after it, and by `same` a whole
-/// yard has the same rules and installation. So with these rolls `y` is the yard before and after the call: over any
-/// directory, as others left it, or over its own if that is the same. An opening has to find what stands there. A
-/// decision has to be by what its connection keeps, for its peer: `Yard::decided` requires that, as far as files are
-/// honest.
+/// A call of a server's yard notes its event between the rolls before and after it (`Makes`; of an admission `made`),
+/// and a whole yard has the same rules and installation. So with these rolls `y` is the yard before and after the call:
+/// over any directory, as others left it, or over its own if that is the same. An opening has to find what stands
+/// there. A decision has to be by what its connection keeps, as far as files are honest, and for its peer:
+/// `Yard::decided` requires the first, and tests the second.
 pub fn noted_leads()
     ensures plain { (y : YardState) (event : Event) (old new : Roll) → is_plain event ≡ true → Notes event old new
         → LeadsOn event (with_roll y old) (with_roll y new) }
@@ -99,15 +99,15 @@ pub fn readers()
 
 /// A run of a server, beside installers in other processes and others, is a history of the headline.
 ///
-/// What the turns of a server's site tell, one after another, is a run (`shared_site`: `Guarded::turn`: `runs_on`).
-/// Between two of its events installers, one after another, and others go on. An opening stands in the history when it
-/// found its file: at some time since its connection was let in, in whatever order (`InOrderOfFinding`). So at each
-/// time a whole accepted text stands under the rules name, or none; each decision is by the text that stood there when
-/// its connection opened the rules; and the limit is kept.
+/// There is a run that led to a server's yard (`Yard::ran`), and it goes on by each event that a call makes
+/// (`server_yard::yard::runs_on`). Between two of them installers, one after another, and others go on. An opening
+/// stands in the history when it found its file: at some time since its connection was let in, in whatever order
+/// (`InOrderOfFinding`). So at each time a whole accepted text stands under the rules name, or none; each decision is
+/// by the text that stood there when its connection opened the rules; and the limit is kept.
 ///
 /// The premises are the headline's: the start is whole (`BeginsRun`), and what an opening found stood there
-/// (`FindsWhatStands`). Besides, each decision is by what its own connection found (`AreByFound`): the turn of a
-/// decision asks this of its pass, as far as files are honest.
+/// (`FindsWhatStands`). Besides, each decision is by what its own connection found (`AreByFound`): `Yard::decided` asks
+/// this of its pass, as far as files are honest.
 pub fn whole_run()
     ensures { (books : Books) (server : ServerState) (events order : List Event) (found : Found) (missing : WhenMissing)
         (w : World) → IsRun books server events

@@ -1,10 +1,9 @@
 //! The turn by which the yard itself opens the rules for a connection. The server doesn't make it: there a connection
-//! opens them by a handle of its own (`shared_site::site::Opened`).
+//! opens them by a handle of its own (`Yard::opened`).
 ghost use Rattle.std.specs.Prelude.{◌≡◌, ◌↔◌, ⊤, false, Err, None, IsTrue, IfOk, OnErr, is_some};
 ghost use Rattle.server_events.specs.ServerState.{is_admitted, stage_of};
-ghost use Rattle.headline.specs.Worlds.{missing_by};
 ghost use Rattle.server_events.specs.declared.event.Event.TheVariants as event;
-ghost use Rattle.server_yard.specs.Passes.{pass_bytes, pass_file, pass_missing};
+ghost use Rattle.server_yard.specs.Passes.{pass_bytes, pass_file};
 ghost use Rattle.server_yard.specs.Rolls.{IsQuiet};
 ghost use Rattle.server_yard.specs.Seating.{KeepsSeats};
 ghost use Rattle.whole_yard.specs.Installed.{IsWholeFile};
@@ -18,10 +17,8 @@ use crate::assumptions::Assumptions;
 use crate::site::WholeTurn;
 use crate::yard::WholeYard;
 use dir_calls::{Dir, DirFault};
-use server_events::{Event, Stage};
-use server_yard::Pass;
-use shared_site::Made;
-use shared_site::receipt::EventSnapshot;
+use server_events::Stage;
+use server_yard::{Made, Pass};
 use std::alloc::Global;
 
 /// Why the rules aren't opened. Nothing changed but the speaker.
@@ -65,7 +62,6 @@ impl<L: Assumptions, D: Dir + Drop> WholeTurn<L, D> for Open {
         ensures counts { CountsAtMostOne (whole_books yard.old).count (whole_books yard.new).count }
         ensures in_turn { (result ≡ Err open_fault.OutOfTurn)
             ↔ (is_admitted (stage_of self.serial (whole_server yard.old).connections) ≡ false) }
-        ensures missing { IfOk result (λ r. pass_missing r.0 ≡ missing_by (whole_rules yard.old)) }
         ensures found { IsTrue D.honest → IfOk result (λ r.
             pass_bytes D.File.bytes r.0 ≡ standing_of (whole_state yard.old)) }
         ensures whole { IsTrue L.met → IfOk result (λ r. ∥ IsWholeFile (pass_bytes D.File.bytes r.0) ∥₁) }
@@ -89,11 +85,7 @@ impl<L: Assumptions, D: Dir + Drop> WholeTurn<L, D> for Open {
             return Err(OpenFault::OutOfTurn);
         }
         match yard.open(alloc, serial) {
-            Ok(pass) => {
-                let there = pass.source().is_some();
-                let event = EventSnapshot::of(Event::Opened { serial, there });
-                Ok((pass, yard.made(caller, event)))
-            }
+            Ok(opened) => Ok(opened),
             Err(DirFault::OutOfMemory) => Err(OpenFault::OutOfMemory),
             Err(_) => Err(OpenFault::Device),
         }

@@ -1,15 +1,14 @@
-//! The whole site: a whole yard under one lock, for many threads. It makes the turns of connections, as a server's site
-//! does, and those by which a yard itself opens the rules or installs.
+//! The whole site: a whole yard under one lock, for many threads. It makes the turns of connections, and those by which
+//! a yard itself opens the rules or installs.
 ghost use Rattle.std.specs.Prelude.{◌≡◌, ◌+◌, ℕ};
 ghost use Rattle.whole_yard.specs.Callers.{CountsAtMostOne, CountsForIts, new_count};
 ghost use Rattle.whole_yard.specs.WholeYards.{whole_books};
 
 use crate::assumptions::Assumptions;
 use crate::caller::{Caller, Callers, NewCallers};
-use crate::ground::ConnectionsOver;
+use crate::connection_turns::ConnectionTurn;
 use crate::yard::WholeYard;
 use dir_calls::Dir;
-use shared_site::Turn;
 use std::sync::ledger::{Blank, Book, Share};
 use std::sync::{Mutex, Wait};
 
@@ -110,12 +109,11 @@ pub trait WholeTurn<L: Assumptions, D: Dir + Drop> {
         ensures counts { CountsAtMostOne (whole_books yard.old).count (whole_books yard.new).count };
 }
 
-/// A turn of a connection, which a server's site makes too.
+/// A turn of a connection.
 #[derive(Drop)]
 pub struct OfConnection<T>(pub T);
 
-impl<L: Assumptions, D: Dir + Drop, T: Turn<ConnectionsOver<L, D>>> WholeTurn<L, D>
-    for OfConnection<T> {
+impl<L: Assumptions, D: Dir + Drop, T: ConnectionTurn<L>> WholeTurn<L, D> for OfConnection<T> {
     type Answer = T::Answer;
 
     ghost may = { λ turn. T.may turn.0 };

@@ -1,12 +1,12 @@
 //! Steps of installations, each noted as the event that it was.
-ghost use Rattle.std.specs.Prelude.{◌≡◌, ◌≢◌, ◌++◌, ◌∷◌, [], None, IsTrue, OnOk, OnErr, option_map};
+ghost use Rattle.std.specs.Prelude.{◌≡◌, ◌≢◌, ◌++◌, ◌∷◌, [], true, None, IsTrue, OnOk, OnErr, option_map};
 ghost use Rattle.server_events.specs.Journals.{HasOneMore, HasSameRoom};
 ghost use Rattle.whole_yard.specs.UnderWay.{StepLeads, Leaves};
 ghost use Rattle.rules_install.specs.Installing.{Fits};
 ghost use Rattle.rules_install.specs.Installs.{installing, IsOpen, IsUndone, StepGoes};
 ghost use Rattle.rules_install.specs.Steps.{BlamesDevice, IsOfDevice, IsSame};
 ghost use Rattle.server_yard.specs.Rolls.{NotesSome};
-ghost use Rattle.server_yard.specs.Yards.{yard_books, yard_missing, yard_roll, yard_seat, yard_server};
+ghost use Rattle.server_yard.specs.Yards.{yard_books, yard_roll, yard_seat, yard_server};
 ghost use Rattle.server_yard.specs.Seating.{HasSpareRoom, KeepsSeats};
 ghost use Rattle.whole_yard.specs.Stepping.{MayFail, fault_event, step_event};
 
@@ -14,18 +14,18 @@ use crate::step::make_step;
 use dir_calls::{Dir, Phase};
 use rules_install::{Install, InstallFault};
 use server_events::Event;
-use server_yard::Yard;
+use server_yard::{Places, Yard};
 use std::alloc::Global;
-use std::sync::ledger::Ledger;
 
 /// Makes the next step of an installation, and notes it. The installation has not begun, or it is in the phase that the
 /// yard has.
-pub(crate) fn step_noted<L: Ledger, D: Dir>(
+pub(crate) fn step_noted<L: Places, D: Dir>(
     alloc: Global,
     yard: &mut Yard<L>,
     dir: &mut D,
     install: &mut Install,
 ) -> Result<Phase, InstallFault>
+    requires installs { L.installs ≡ true }
     requires is_open { IsOpen install.old }
     requires undone { IsUndone install.old }
     requires phase { (installing install.old).reached ≢ None
@@ -34,7 +34,6 @@ pub(crate) fn step_noted<L: Ledger, D: Dir>(
     ensures noted { NotesSome (step_event result) (yard_roll yard.old) (yard_roll yard.new) }
     ensures lists { (yard_books yard.new).lists ≡ (yard_books yard.old).lists }
     ensures seats { KeepsSeats (yard_seat yard.old) (yard_seat yard.new) }
-    ensures missing { yard_missing yard.new ≡ yard_missing yard.old }
     ensures room { HasSameRoom (yard_roll yard.old).room (yard_roll yard.new).room }
     ensures goes { StepGoes install.old install.new result }
     ensures same { IsSame (installing install.old) (installing install.new) }
@@ -62,14 +61,14 @@ pub(crate) fn step_noted<L: Ledger, D: Dir>(
 }
 
 // Notes a step that met a fault. If the fault is not the directory's, there is no event.
-fn note_fault<L: Ledger>(yard: &mut Yard<L>, fault: InstallFault)
+fn note_fault<L: Places>(yard: &mut Yard<L>, fault: InstallFault)
+    requires installs { L.installs ≡ true }
     requires may { MayFail (yard_server yard.old) fault }
     requires room { HasSpareRoom (yard_roll yard.old) }
     ensures noted { NotesSome (fault_event fault) (yard_roll yard.old) (yard_roll yard.new) }
     ensures one_less { HasOneMore (yard_roll yard.new).room (yard_roll yard.old).room }
     ensures lists { (yard_books yard.new).lists ≡ (yard_books yard.old).lists }
     ensures seats { KeepsSeats (yard_seat yard.old) (yard_seat yard.new) }
-    ensures missing { yard_missing yard.new ≡ yard_missing yard.old }
 {
     match fault {
         InstallFault::Disk(_, phase) => yard.note_step(Event::StepFailed { phase }),
@@ -78,12 +77,13 @@ fn note_fault<L: Ledger>(yard: &mut Yard<L>, fault: InstallFault)
 }
 
 /// Makes the first step of an installation, and notes it. Its rules are kept if it was made.
-pub(crate) fn begin_noted<L: Ledger, D: Dir>(
+pub(crate) fn begin_noted<L: Places, D: Dir>(
     alloc: Global,
     yard: &mut Yard<L>,
     dir: &mut D,
     install: &mut Install,
 ) -> Result<Phase, InstallFault>
+    requires installs { L.installs ≡ true }
     requires is_open { IsOpen install.old }
     requires unbegun { (installing install.old).reached ≡ None }
     ensures noted { NotesSome (step_event result) (yard_roll yard.old) (yard_roll yard.new) }
@@ -91,7 +91,6 @@ pub(crate) fn begin_noted<L: Ledger, D: Dir>(
         ≡ option_map (λ all. all ++ (installing install.old).rules ∷ []) (yard_books yard.old).lists) }
     ensures err { OnErr result ((yard_books yard.new).lists ≡ (yard_books yard.old).lists) }
     ensures seats { KeepsSeats (yard_seat yard.old) (yard_seat yard.new) }
-    ensures missing { yard_missing yard.new ≡ yard_missing yard.old }
     ensures room { HasSameRoom (yard_roll yard.old).room (yard_roll yard.new).room }
     ensures goes { StepGoes install.old install.new result }
     ensures same { IsSame (installing install.old) (installing install.new) }

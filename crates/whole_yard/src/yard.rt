@@ -13,14 +13,14 @@ ghost use Rattle.server_events.specs.ServerState.{stage_of};
 ghost use Rattle.headline.specs.Worlds.{missing_by};
 ghost use Rattle.server_events.specs.declared.event.Event.TheVariants.{Opened};
 ghost use Rattle.server_events.specs.declared.event.Stage.TheVariants as stage;
-ghost use Rattle.server_yard.specs.Passes.{pass_bytes, pass_file, pass_missing, pass_serial};
-ghost use Rattle.server_yard.specs.Rolls.{HasNoEvents, IsQuiet, Notes, NotesSome};
+ghost use Rattle.server_yard.specs.Evidence.{IsNoted};
+ghost use Rattle.server_yard.specs.Passes.{pass_bytes, pass_file, pass_serial};
+ghost use Rattle.server_yard.specs.Rolls.{HasNoEvents, IsQuiet, NotesSome};
 ghost use Rattle.server_yard.specs.Rooms.{KeepsRoom};
 ghost use Rattle.server_yard.specs.Seating.{KeepsSeats};
-ghost use Rattle.server_yard.specs.Yards.{yard_books, yard_missing, yard_server};
-ghost use Rattle.shared_site.specs.Receipts.{receipt_at, receipt_of, shown_event};
-ghost use Rattle.shared_site.specs.Turns.{NotesTold};
-ghost use Rattle.whole_yard.specs.Callers.{IsLastOf, spoken_by};
+ghost use Rattle.server_yard.specs.Yards.{yard_books, yard_server};
+ghost use Rattle.whole_yard.specs.Callers.{spoken_by};
+ghost use Rattle.whole_yard.specs.ConnectionTurns.{NotesTold};
 ghost use Rattle.whole_yard.specs.Installed.{IsWholeFile, KeepsHistory};
 ghost use Rattle.whole_yard.specs.Kept.{FindsItsFile, FindsItsFile-prop, IsKeptInstallation, installing_of, is_kept, phase_of, rules_of, state_of};
 ghost use Rattle.whole_yard.specs.Readers.{ReadersFind};
@@ -28,17 +28,14 @@ ghost use Rattle.whole_yard.specs.Standing.{BeginsWell, LeadsOpened, LeadsSome, 
 ghost use Rattle.whole_yard.specs.Stepping.{GoesAsStep, HandsBack, IsRefusedAs, begin_event, event_of_step, is_kept_after, is_of_disk, kept_after_begin, kept_after_step, kept_then, last_begun_after, lists_after_begin};
 
 use crate::assumptions::Assumptions;
-use crate::ground::ConnectionsOver;
+use crate::connection_turns::ConnectionTurn;
 use crate::stepping::{begin_noted, step_noted};
 use child_jobs::TableFault;
 use dir_calls::{Dir, DirFault, Name, Phase};
 use rule_lookup::WhenMissing;
 use rules_install::{Install, InstallFault};
 use server_events::Journal;
-use server_yard::{Pass, Yard};
-use shared_site::receipt::EventSnapshot;
-use shared_site::site::made;
-use shared_site::{Made, Turn};
+use server_yard::{Made, Pass, Yard};
 use std::alloc::Global;
 use std::mem;
 use std::sync::ledger::Blank;
@@ -53,7 +50,7 @@ enum Installation {
 }
 
 /// The connections of a server and the installations beside them, over one directory. Each call that is an event is one
-/// step of the headline's world; a turn that tells of an opening is one if it found what stands there.
+/// step of the headline's world.
 #[derive(Drop)]
 pub struct WholeYard<L: Assumptions, D: Dir + Drop> {
     yard: Yard<L>,
@@ -64,7 +61,7 @@ pub struct WholeYard<L: Assumptions, D: Dir + Drop> {
     begun: u64,
     // if the assumptions are met, the directory is honest
     ghost honest: { IsTrue L.met → IsTrue D.honest },
-    pub ghost missing: { yard_missing yard ≡ L.missing },
+    pub ghost installs: { L.installs ≡ true },
     pub ghost told: { missing_by (rules_of rules) ≡ L.missing },
     // the phase is that of the installation that is kept
     pub ghost phase: { phase_of (installing_of installation) ≡ (yard_server yard).phase },
@@ -100,13 +97,13 @@ impl<L: Assumptions, D: Dir + Drop> WholeYard<L, D> {
         requires parts { (blank.parts ≡ L.parts) × (blank.parts ≡ limit) }
         requires journal { HasNoEvents (books_of_journal journal) }
         requires begins { IsTrue L.met → BeginsWell D.honest (D.state dir) (rules_of rules) }
+        requires installs { L.installs ≡ true }
         requires missing { missing_by (rules_of rules) ≡ L.missing }
         ensures made { IfOk result (IsMadeWhole dir (rules_of rules) limit per_address journal) }
         ensures refused { IfErr result (RefusesLimits limit per_address) }
     {
-        let missing = missing_of(&rules);
         Ok(WholeYard {
-            yard: Yard::new(alloc, blank, missing, limit, per_address, journal)?,
+            yard: Yard::new(alloc, blank, limit, per_address, journal)?,
             dir,
             rules,
             installation: Installation::Idle,
@@ -137,9 +134,8 @@ impl<L: Assumptions, D: Dir + Drop> WholeYard<L, D> {
         self.yard.speaker(speaker);
     }
 
-    /// Makes a turn of a connection for the caller with this number, as a site makes it. The directory is not called.
-    /// So a turn that tells of an opening may tell of any file, as in a server: `open` looks what stands there.
-    pub fn connection<T: Turn<ConnectionsOver<L, D>>>(&mut self, turn: T, caller: u64) -> T::Answer
+    /// Makes a turn of a connection for the caller with this number. The directory is not called.
+    pub fn connection<T: ConnectionTurn<L>>(&mut self, turn: T, caller: u64) -> T::Answer
         requires may { T.may turn }
         ensures answers { T.answers turn caller (whole_books self.old).count result (whole_books self.new).count }
         ensures notes { NotesTold (T.tells turn result) (spoken_by caller (whole_roll self.old)) (whole_roll self.new) }
@@ -148,14 +144,6 @@ impl<L: Assumptions, D: Dir + Drop> WholeYard<L, D> {
     {
         self.yard.speaker(caller);
         turn.run(&mut self.yard)
-    }
-
-    /// Evidence that a caller made the last event of this yard, as which this one was just noted.
-    pub(crate) fn made(&self, caller: u64, event: EventSnapshot) -> Made
-        requires last { IsLastOf caller (shown_event event) (whole_roll self.now) }
-        ensures its { receipt_of result ≡ receipt_at (whole_books self.now).count caller (shown_event event) }
-    {
-        made(&self.yard, event)
     }
 
     // What stands under the rules name.
@@ -182,22 +170,21 @@ impl<L: Assumptions, D: Dir + Drop> WholeYard<L, D> {
     /// Opens the rules for a connection that was let in.
     ///
     /// The pass has what stands under the rules name now, and keeps it through all later calls. Without a rules name
-    /// there is no file, the directory is not called, and the connection is allowed.
+    /// there is no file, the directory is not called, and the connection is allowed. Beside it is the event's evidence.
     ///
     /// # Errors
     /// Those of `Dir::open`. A fault is no event: the connection is as before.
-    pub fn open(&mut self, alloc: Global, serial: u64) -> Result<Pass<L, D::File>, DirFault>
+    pub fn open(&mut self, alloc: Global, serial: u64) -> Result<(Pass<L, D::File>, Made), DirFault>
         requires admitted { stage_of serial (whole_server self.old).connections ≡ Some stage.Admitted }
-        ensures its { IfOk result (λ pass. pass_serial pass ≡ serial) }
-        ensures missing { IfOk result (λ pass. pass_missing pass ≡ missing_by (whole_rules self.old)) }
-        ensures found { IsTrue D.honest → IfOk result (λ pass.
-            pass_bytes D.File.bytes pass ≡ standing_of (whole_state self.old)) }
+        ensures its { IfOk result (λ r. pass_serial r.0 ≡ serial) }
+        ensures found { IsTrue D.honest → IfOk result (λ r.
+            pass_bytes D.File.bytes r.0 ≡ standing_of (whole_state self.old)) }
         // if the assumptions are met, the file is compiled of rules
-        ensures whole { IsTrue L.met → IfOk result (λ pass. ∥ IsWholeFile (pass_bytes D.File.bytes pass) ∥₁) }
-        ensures noted { IfOk result (λ pass. Notes
-            (Opened serial (is_some (pass_file pass))) (whole_roll self.old) (whole_roll self.new)) }
-        ensures step { IsTrue D.honest → IfOk result (λ pass. LeadsOpened serial
-            (pass_bytes D.File.bytes pass) (whole_state self.old) (whole_state self.new)) }
+        ensures whole { IsTrue L.met → IfOk result (λ r. ∥ IsWholeFile (pass_bytes D.File.bytes r.0) ∥₁) }
+        ensures noted { IfOk result (λ r. IsNoted
+            (Opened serial (is_some (pass_file r.0))) r.1 (whole_roll self.old) (whole_roll self.new)) }
+        ensures step { IsTrue D.honest → IfOk result (λ r. LeadsOpened serial
+            (pass_bytes D.File.bytes r.0) (whole_state self.old) (whole_state self.new)) }
         ensures refused { OnErr result (IsQuiet (whole_roll self.old) (whole_roll self.new)) }
         ensures err_state { IsTrue D.honest → OnErr result (whole_state self.new ≡ whole_state self.old) }
         // a stop since then left what the headline's world may leave: an opening changes nothing
@@ -215,17 +202,20 @@ impl<L: Assumptions, D: Dir + Drop> WholeYard<L, D> {
     }
 
     // Notes that a connection which was let in has opened the rules, and has found this.
-    fn opened(&mut self, serial: u64, file: Option<D::File>) -> Pass<L, D::File>
+    fn opened(&mut self, serial: u64, file: Option<D::File>) -> (Pass<L, D::File>, Made)
         requires admitted { stage_of serial (whole_server self.old).connections ≡ Some stage.Admitted }
-        ensures its { pass_serial result ≡ serial }
-        ensures missing { pass_missing result ≡ missing_by (whole_rules self.old) }
-        ensures found { pass_file result ≡ file }
-        ensures noted { Notes (Opened serial (is_some (pass_file result))) (whole_roll self.old) (whole_roll self.new) }
+        ensures its { pass_serial result.0 ≡ serial }
+        ensures found { pass_file result.0 ≡ file }
+        ensures noted { IsNoted
+            (Opened serial (is_some (pass_file result.0))) result.1 (whole_roll self.old) (whole_roll self.new) }
         ensures room { KeepsRoom (whole_roll self.old) (whole_roll self.new) }
         ensures same { IsSameBesides self.old self.new }
         ensures seats { KeepsSeats (whole_seat self.old) (whole_seat self.new) }
     {
-        self.yard.opened(serial, file)
+        let Ok(opened) = self.yard.opened(serial, file) else {
+            unreachable!()
+        };
+        opened
     }
 
     // Whether an installation is for the rules name.
@@ -404,16 +394,6 @@ fn ended_by(answer: Result<Phase, InstallFault>) -> Option<Installation>
         Ok(Phase::Done) => Some(Installation::AtDone),
         Err(InstallFault::Disk(..)) => Some(Installation::Idle),
         _ => None,
-    }
-}
-
-// What is decided if no file stands under a name; without a name every connection is allowed.
-fn missing_of(rules: &Option<(Name, WhenMissing)>) -> WhenMissing
-    ensures { result ≡ missing_by (rules_of rules.now) }
-{
-    match rules {
-        Some((_, missing)) => *missing,
-        None => WhenMissing::Allow,
     }
 }
 

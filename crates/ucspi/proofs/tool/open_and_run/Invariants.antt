@@ -1,8 +1,9 @@
+use Rattle.std.specs.Prelude.{false}
 use Rattle.server_parts.specs.RulesPaths.{rules_missing}
 use Rattle.ucspi.proofs.tool.open_and_run.Given as goal
 
-abbrev pub ghosts-run_site-L-Ledger : goal.ghosts-run_site-L-Ledger
-ghosts-run_site-L-Ledger g a = record { name = a.places.name; parts = a.places.parts }
+abbrev pub ghosts-run_in_yard-L-Ledger : goal.ghosts-run_in_yard-L-Ledger
+ghosts-run_in_yard-L-Ledger g a = record { name = a.places.name; parts = a.places.parts }
 
-abbrev pub ghosts-run_site-L-Places : goal.ghosts-run_site-L-Places
-ghosts-run_site-L-Places g a = record { admissions = a.server.now.service.limits.count; missing = rules_missing a.rules.now }
+abbrev pub ghosts-run_in_yard-L-Places : goal.ghosts-run_in_yard-L-Places
+ghosts-run_in_yard-L-Places g a = record { installs = false; admissions = a.server.now.service.limits.count; missing = rules_missing a.rules.now }

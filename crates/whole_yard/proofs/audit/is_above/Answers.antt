@@ -1,7 +1,7 @@
 use Rattle.std.proofs.Common.{◌<◌, ◌-◌, ℕ, get_or, length, arith}
 use Rattle.std.proofs.lemmas.Bool.Decides.{nat_tests}
 use Rattle.std.specs.Prelude.{◌≢◌}
-use Rattle.shared_site.specs.declared.receipt.Receipt.{Receipt}
+use Rattle.whole_yard.specs.declared.receipt.Receipt.{Receipt}
 use Rattle.whole_yard.proofs.Auditing.{above_at, above_last}
 use Rattle.whole_yard.proofs.audit.is_above.Goals as goal
 

@@ -1,5 +1,5 @@
 use Rattle.std.specs.Prelude.{◌≢◌, ◌≤◌, ◌<◌, ℕ, length, slice_index_or}
-use Rattle.shared_site.specs.declared.receipt.Receipt.{Receipt}
+use Rattle.whole_yard.specs.declared.receipt.Receipt.{Receipt}
 use Rattle.whole_yard.proofs.audit.is_above.Given as goal
 
 abbrev pub invariant-loop-left : goal.invariant-loop-left

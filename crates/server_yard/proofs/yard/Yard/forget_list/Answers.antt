@@ -2,6 +2,7 @@ use Rattle.std.proofs.Common.{refl, ap, ◌∙◌}
 use Rattle.server_events.specs.Journals.{Books}
 use Rattle.server_yard.specs.Rooms.{room_needed}
 use Rattle.server_yard.proofs.Histories.{has_history_same}
+use Rattle.server_yard.proofs.Running.{ran_same}
 use Rattle.server_yard.proofs.yard.Yard.forget_list.Goals as goal
 
 pub invariant_of-self : goal.invariant_of-self
@@ -10,6 +11,7 @@ invariant_of-self g c =
     let is = c.forget_list.ensures.forgotten in
     record {
       history = has_history_same (ap (λ (b : Books). b.report) is) (ap (λ (b : Books). b.count) is) (ap (λ (b : Books). b.notes) is) refl old.history;
+      ran = λ serves. ran_same (ap (λ (b : Books). b.count) is) (ap (λ (b : Books). b.notes) is) refl (old.ran serves);
       small = old.small;
       live = old.live;
       at_each_address = old.at_each_address;

@@ -3,6 +3,7 @@ use Rattle.server_events.specs.Journals.{Books}
 use Rattle.server_yard.specs.Rooms.{room_needed}
 use Rattle.server_yard.proofs.Histories.{has_history_same, same_but_lists}
 use Rattle.server_yard.proofs.Outcomes.{on_err, on_ok}
+use Rattle.server_yard.proofs.Running.{ran_same}
 use Rattle.server_yard.proofs.yard.Yard.keep_list.Goals as goal
 
 pub invariant_of-self : goal.invariant_of-self
@@ -11,6 +12,7 @@ invariant_of-self g c =
     let same = same_but_lists c.keep_list.result _ _ _ c.keep_list.ensures.kept c.keep_list.ensures.err in
     record {
       history = has_history_same same.0 same.1 same.2 refl old.history;
+      ran = λ serves. ran_same same.1 same.2 refl (old.ran serves);
       small = old.small;
       live = old.live;
       at_each_address = old.at_each_address;

@@ -11,11 +11,12 @@ use Rattle.server_events.specs.ServerState.{ServerState, count_from, stage_of, w
 use Rattle.server_events.proofs.Peers.{stage_of-peer_of}
 use Rattle.server_yard.specs.Rooms.{room_needed}
 use Rattle.server_yard.specs.Seating.{HasSeats}
-use Rattle.server_yard.proofs.Histories.{distinct, has_history_on, nothing}
+use Rattle.server_yard.proofs.Histories.{OneMore, distinct, has_history_on, nothing}
 use Rattle.server_yard.proofs.Gone.{left_at, spare_is}
-use Rattle.server_yard.proofs.Peopled.{leaver_fits, not_retired}
+use Rattle.server_yard.proofs.Peopled.{leaver_fits, leaver_own, not_retired}
 use Rattle.server_yard.proofs.RoomLemmas.{goes_off, room-without}
 use Rattle.server_yard.proofs.Seating.{seats_go}
+use Rattle.server_yard.proofs.Running.{ran_on}
 use Rattle.server_yard.proofs.yard.Yard.leave.Goals as goal
 
 pub leave-requires : goal.leave-requires
@@ -63,8 +64,10 @@ invariant_of-self g c =
     let none = not_retired off.at off.some_left in
     let apart = distinct _ old.state old.history in
     let same = c.release.ensures.same in
+    let more : OneMore _ _ e _ _ _ = record { small = old.small; fits = leaver_fits e n c.requires.kind; may = c.requires.may; happens = c.in-Ok.ensures.applied; tells_so = ap (λ (b : Books). b.report) same ∙ c.note.ensures.report; counts = ap (λ (b : Books). b.count) same ∙ c.note.ensures.count; stores = ap (λ (b : Books). b.notes) same ∙ c.note.ensures.notes } in
     record {
-      history = has_history_on (record { small = old.small; fits = leaver_fits e n c.requires.kind; may = c.requires.may; happens = c.in-Ok.ensures.applied; tells_so = ap (λ (b : Books). b.report) same ∙ c.note.ensures.report; counts = ap (λ (b : Books). b.count) same ∙ c.note.ensures.count; stores = ap (λ (b : Books). b.notes) same ∙ c.note.ensures.notes }) old.history;
+      history = has_history_on more old.history;
+      ran = λ serves. ran_on more (leaver_own e n c.requires.kind) (old.ran serves);
       small = subst (λ (k : ℕ). k < 2 ^ 64) (sym (ap (λ (u : ServerState). u.limit) now)) old.small;
       live = omega (arith, old.live, fewer.live, shorter, one_less);
       at_each_address =

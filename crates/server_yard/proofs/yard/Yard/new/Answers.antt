@@ -12,6 +12,7 @@ use Rattle.server_events.specs.declared.state.Connection.{Connection}
 use Rattle.server_events.proofs.Countings.{retired_in}
 use Rattle.server_yard.specs.Rooms.{room_needed}
 use Rattle.server_yard.proofs.Histories.{has_history_same, none_yet}
+use Rattle.server_yard.proofs.Running.{run_of_none}
 use Rattle.server_yard.proofs.yard.Yard.new.Goals as goal
 
 pub invariant_of-result : goal.invariant_of-result
@@ -22,8 +23,10 @@ invariant_of-result g c =
     let empty = c.new.ensures in
     let live = ap live_of made ∙ map.len-empty nat_cmp (List ℕ) in
     let none = ap (λ (u : ServerState). u.connections) empty in
+    let begun = has_history_same refl refl refl empty ∣ ([], none_yet _ c.args.limit c.args.per_address c.requires.journal.tells c.requires.journal.stores) ∣₁ in
     record {
-      history = has_history_same refl refl refl empty ∣ ([], none_yet _ c.args.limit c.args.per_address c.requires.journal.tells c.requires.journal.stores) ∣₁;
+      history = begun;
+      ran = λ serves. run_of_none _ _ begun c.requires.journal.tells.number;
       small = subst (λ (n : ℕ). n < 2 ^ 64) (sym (ap (λ (u : ServerState). u.limit) empty)) c.ranges.limit.fits;
       live = live ∙ sym (ap (λ (cs : List Connection). length cs) none);
       at_each_address = λ ip. (let few = live_at-le-live_of t ip in let zero : live_at ip t ≡ 0 = omega (arith, few, live) in zero ∙ sym (ap (λ (cs : List Connection). count_from ip cs) none));

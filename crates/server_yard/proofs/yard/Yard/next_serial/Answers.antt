@@ -30,4 +30,4 @@ returns-clause-full_for_address g c =
     let from = c.live_from.ensures ∙ ap (λ ip. count_from ip old.state.connections) c.ip.ensures in
     let per = c.address_limit.ensures ∙ old.per_address in
     let other = c.if-live_from-address_limit.false in
-    (λ e. absurd (cc), λ full. absurd (let here = full.2 in grind (arith, from, per, other, here)))
+    (λ e. absurd (cc), λ full. absurd (let here = full.1.2 in grind (arith, from, per, other, here)))

@@ -26,6 +26,7 @@ invariant_of-self g c =
     let same = ap (λ (u : ServerState). u.connections) now ∙ installing_keeps old.state e c.requires.kind in
     record {
       history = has_history_on (record { small = old.small; fits = installing_fits e c.requires.kind; may = c.requires.may; happens = now; tells_so = c.note.ensures.report; counts = c.note.ensures.count; stores = c.note.ensures.notes }) old.history;
+      ran = λ serves. absurd (cc);
       small = subst (λ (n : ℕ). n < 2 ^ 64) (sym stays.limit) old.small;
       live = old.live ∙ sym stays.live;
       at_each_address = λ ip. old.at_each_address ip ∙ sym (stays.from ip);

@@ -1,6 +1,7 @@
 use Rattle.std.proofs.Common.{refl, sym, ◌∙◌}
 use Rattle.server_yard.specs.Rooms.{room_needed}
 use Rattle.server_yard.proofs.Histories.{has_history_kept}
+use Rattle.server_yard.proofs.Running.{ran_kept}
 use Rattle.server_yard.proofs.yard.Yard.release.Goals as goal
 
 pub invariant_of-self : goal.invariant_of-self
@@ -9,6 +10,7 @@ invariant_of-self g c =
     let same = c.release.ensures.same in
     record {
       history = has_history_kept same refl old.history;
+      ran = λ serves. ran_kept same refl (old.ran serves);
       small = old.small;
       live = old.live;
       at_each_address = old.at_each_address;

@@ -4,6 +4,7 @@ use Rattle.std.proofs.Common.{refl}
 use Rattle.server_yard.specs.Rooms.{room_needed}
 use Rattle.server_yard.proofs.Histories.{has_history_kept}
 use Rattle.server_yard.proofs.Outcomes.{kept_room}
+use Rattle.server_yard.proofs.Running.{ran_kept}
 use Rattle.server_yard.proofs.yard.Yard.reserve.Goals as goal
 
 pub invariant_of-self : goal.invariant_of-self
@@ -13,6 +14,7 @@ invariant_of-self g c =
     let needed = room_needed old.state.connections in
     record {
       history = has_history_kept same refl old.history;
+      ran = λ serves. ran_kept same refl (old.ran serves);
       small = old.small;
       live = old.live;
       at_each_address = old.at_each_address;

@@ -1,55 +1,58 @@
 use Rattle.server_events.specs.JournalParts.{has_room}
 use Rattle.server_events.proofs.JournalRoom.{less_room}
-use Rattle.std.proofs.Common.{◌≡◌, ◌<◌, ◌+◌, ◌^◌, ℕ, true, refl, sym, ap, subst, ◌∙◌, arith}
+use Rattle.std.proofs.Common.{◌≡◌, ◌<◌, ◌+◌, ◌^◌, ℕ, true, refl, rules, sym, ap, subst, ◌∙◌, arith}
 use Rattle.std.specs.Prelude.{is_some}
 use Rattle.std.specs.BTreeMap.{get}
 use Rattle.std.specs.Ordering.{nat_cmp}
 use Rattle.child_jobs.specs.Runs.{place_of}
 use Rattle.child_jobs.specs.PlacesOut.{PlacesOut, live_at, live_of}
 use Rattle.server_events.proofs.Countings.{moves, retired_in}
-use Rattle.server_events.specs.ServerState.{ServerState, is_started, stage_of}
+use Rattle.server_events.specs.ServerState.{ServerState}
 use Rattle.server_events.specs.declared.event.Event.TheVariants as event
 use Rattle.server_events.proofs.Peers.{stage_of-peer_of}
-use Rattle.server_yard.specs.Rolls.{number_at}
 use Rattle.server_yard.specs.Rooms.{room_needed}
-use Rattle.server_yard.proofs.Histories.{has_history_on}
-use Rattle.server_yard.proofs.Peopled.{NobodyMoves, retired_stays}
+use Rattle.server_yard.specs.Yards.{yard_roll}
+use Rattle.server_yard.proofs.Histories.{OneMore, has_history_on}
+use Rattle.server_yard.proofs.Noting.{last_of, noted_by}
+use Rattle.server_yard.proofs.Peopled.{NobodyMoves, retired_stays, started_is}
 use Rattle.server_yard.proofs.RoomLemmas.{room_retired}
-use Rattle.server_yard.proofs.Seating.{seat_at, seats_same, seats_stay}
+use Rattle.server_yard.proofs.Running.{ran_on}
+use Rattle.server_yard.proofs.Seating.{seats_same, seats_stay}
 use Rattle.server_yard.proofs.yard.Yard.retired.Goals as goal
 
 pub retire-requires : goal.retire-requires
 retire-requires g c =
     let old = c.args.self.now in
-    let at = seat_at (get nat_cmp old.seats (place_of c.args.running)) old.state _ c.requires.started in
-    let its = stage_of-peer_of at.0 _ old.state.connections at.2 in
-    ap (λ o. is_some o) (old.seated.for_its_peer (place_of c.args.running) at.0 its.0 at.1 its.1)
+    let in_turn = c.is_in_turn.ensures.0 (search rules) in
+    let started = started_is _ in_turn.may in
+    let its = stage_of-peer_of c.args.serial _ old.state.connections started in
+    let seat = ap (get nat_cmp old.seats) (sym (c.index.ensures ∙ c.place.ensures)) ∙ in_turn.seat in
+    ap (λ o. is_some o) (old.seated.for_its_peer (place_of c.args.running) c.args.serial its.0 seat its.1)
 
 pub note-requires : goal.note-requires
 note-requires g c =
     let old = c.args.self.now in
-    let at = seat_at (get nat_cmp old.seats (place_of c.args.running)) old.state _ c.requires.started in
-    let less = room_retired old.state at.0 at.2 in
+    let in_turn = c.is_in_turn.ensures.0 (search rules) in
+    let less = room_retired old.state c.args.serial (started_is _ in_turn.may) in
     less_room old.journal 1 (room_needed old.state.connections) (omega (arith, less)) old.room
 
 pub invariant_of-self : goal.invariant_of-self
 invariant_of-self g c =
     let old = c.args.self.now in
-    let n = c.number-serial.result in
+    let n = c.args.serial in
     let e = event.Retired n in
     let s = c.apply.new.self in
-    let at = seat_at (get nat_cmp old.seats (place_of c.args.running)) old.state _ c.requires.started in
-    let place = c.index.ensures ∙ c.place.ensures in
-    let serial = c.number-serial.ensures ∙ ap (λ (i : ℕ). number_at (get nat_cmp old.seats i)) place ∙ at.3 in
-    let staged = ap (λ (k : ℕ). stage_of k old.state.connections) serial ∙ at.2 in
-    let may = ap is_started staged in
+    let in_turn = c.is_in_turn.ensures.0 (search rules) in
+    let staged = started_is _ in_turn.may in
     let now = c.in-Ok.ensures.applied in
     let stays = subst (λ (u : ServerState). NobodyMoves old.state u) (sym now) (retired_stays old.state n) in
     let table = c.retire.ensures in
-    let marks = ap (λ (u : ServerState). retired_in u.connections) now ∙ (moves old.state e may).retired in
+    let marks = ap (λ (u : ServerState). retired_in u.connections) now ∙ (moves old.state e in_turn.may).retired in
     let less = ap (λ (u : ServerState). room_needed u.connections + 1) now ∙ room_retired old.state n staged in
+    let more : OneMore _ _ e _ _ _ = record { small = old.small; fits = tt; may = in_turn.may; happens = now; tells_so = c.note.ensures.report; counts = c.note.ensures.count; stores = c.note.ensures.notes } in
     record {
-      history = has_history_on (record { small = old.small; fits = tt; may = may; happens = now; tells_so = c.note.ensures.report; counts = c.note.ensures.count; stores = c.note.ensures.notes }) old.history;
+      history = has_history_on more old.history;
+      ran = λ serves. ran_on more refl (old.ran serves);
       small = subst (λ (k : ℕ). k < 2 ^ 64) (sym stays.limit) old.small;
       live = ap live_of table ∙ old.live ∙ sym stays.live;
       at_each_address = λ ip. ap (live_at ip) table ∙ old.at_each_address ip ∙ sym (stays.from ip);
@@ -60,15 +63,38 @@ invariant_of-self g c =
       room = c.note.ensures.room (room_needed s.connections) ∙ subst (λ (k : ℕ). has_room old.journal k ≡ true) (sym less) old.room;
     }
 
-pub returns-clause-room : goal.returns-clause-room
-returns-clause-room g c = λ m.
+pub of-requires-2 : goal.of-requires-2
+of-requires-2 g c = record {
+  last = last_of (event.Retired c.args.serial) _ (yard_roll c.args.self.now) _ (record {
+    may = (c.is_in_turn.ensures.0 (search rules)).may;
+    happens = c.in-Ok.ensures.applied;
+    speaks = refl;
+    tells = c.note.ensures.report;
+    counts = c.note.ensures.count;
+    stores = c.note.ensures.notes;
+  }) c.of-shown.ensures;
+}
+
+pub returns-clause-makes : goal.returns-clause-makes
+returns-clause-makes g c =
     let old = c.args.self.now in
-    let n = c.number-serial.result in
     let s = c.apply.new.self in
-    let at = seat_at (get nat_cmp old.seats (place_of c.args.running)) old.state _ c.requires.started in
-    let place = c.index.ensures ∙ c.place.ensures in
-    let serial = c.number-serial.ensures ∙ ap (λ (i : ℕ). number_at (get nat_cmp old.seats i)) place ∙ at.3 in
-    let staged = ap (λ (k : ℕ). stage_of k old.state.connections) serial ∙ at.2 in
-    let less = ap (λ (u : ServerState). room_needed u.connections + 1) c.in-Ok.ensures.applied ∙ room_retired old.state n staged in
-    let all : m + room_needed s.connections + 1 ≡ m + room_needed old.state.connections = omega (arith, less) in
-    c.note.ensures.room (m + room_needed s.connections) ∙ ap (λ (k : ℕ). has_room old.journal k) all
+    let in_turn = c.is_in_turn.ensures.0 (search rules) in
+    let less = ap (λ (u : ServerState). room_needed u.connections + 1) c.in-Ok.ensures.applied ∙ room_retired old.state c.args.serial (started_is _ in_turn.may) in
+    record {
+      own = refl;
+      made = noted_by (event.Retired c.args.serial) _ c.of-2.result (yard_roll old) _ (record {
+        may = in_turn.may;
+        happens = c.in-Ok.ensures.applied;
+        speaks = refl;
+        tells = c.note.ensures.report;
+        counts = c.note.ensures.count;
+        stores = c.note.ensures.notes;
+      }) c.of-shown.ensures c.of-2.ensures.its c.of-2.ensures.for_speaker c.of-2.ensures.at;
+      out = tt;
+      room = λ m.
+          let all : m + room_needed s.connections + 1 ≡ m + room_needed old.state.connections = omega (arith, less) in
+          c.note.ensures.room (m + room_needed s.connections) ∙ ap (λ (k : ℕ). has_room old.journal k) all;
+      same = c.note.ensures.lists;
+      seats = λ i. refl;
+    }

@@ -12,10 +12,13 @@ use Rattle.server_events.specs.declared.event.Event.TheVariants as event
 use Rattle.server_events.proofs.History.{room_for}
 use Rattle.server_yard.specs.Rooms.{room_needed}
 use Rattle.server_yard.specs.Seating.{HasSeats}
+use Rattle.server_yard.specs.Yards.{yard_roll}
 use Rattle.server_yard.proofs.Admitting.{joined_at}
-use Rattle.server_yard.proofs.Histories.{distinct, has_history_kept, has_history_on}
+use Rattle.server_yard.proofs.Histories.{OneMore, distinct, has_history_kept, has_history_on}
+use Rattle.server_yard.proofs.Noting.{last_of, noted_by}
 use Rattle.server_yard.proofs.RoomLemmas.{room-push}
 use Rattle.server_yard.proofs.Seating.{seats_come, seats_lost, serials_kept}
+use Rattle.server_yard.proofs.Running.{ran_kept, ran_on}
 use Rattle.server_yard.proofs.yard.Yard.take_in.Goals as goal
 
 pub invariant_of-self : goal.invariant_of-self
@@ -24,6 +27,7 @@ invariant_of-self g c =
     let same = c.in_err-reserve.ensures.same in
     record {
       history = has_history_kept same refl old.history;
+      ran = λ serves. ran_kept same refl (old.ran serves);
       small = old.small;
       live = old.live;
       at_each_address = old.at_each_address;
@@ -62,19 +66,21 @@ invariant_of-self-in-Ok g c =
     let may = ap (λ (p : Client). may_admit old.state n p) copied ∙ c.requires.may in
     let room = room_for old.state n peer c.requires.may in
     let table = c.in-Ok.ensures.placed in
-    let more = c.in-Ok.ensures.one_more in
+    let joined = c.in-Ok.ensures.one_more in
     let live = ap (λ (u : ServerState). length u.connections) goes ∙ (moves old.state e may).live in
     let marks = ap (λ (u : ServerState). retired_in u.connections) goes ∙ (moves old.state e may).retired in
     let needed = ap (λ (u : ServerState). room_needed u.connections) now ∙ room-push old.state.connections (newcomer n peer) in
     let taken = c.in_ok-reserve.ensures.room (room_needed old.state.connections) ∙ old.room in
     let same = c.in_ok-reserve.ensures.same in
     let apart = distinct _ old.state old.history in
+    let more : OneMore _ _ e _ _ _ = record { small = old.small; fits = c.ranges.serial.fits; may = may; happens = goes; tells_so = c.note.ensures.report ∙ ap (λ (b : Books). next_report b.report e) same; counts = c.note.ensures.count ∙ ap (λ (b : Books). one_more b.count) same; stores = c.note.ensures.notes ∙ ap (λ (b : Books). option_map (λ notes. notes ++ record { event = e; caller = old.speaker } ∷ []) b.notes) same } in
     record {
-      history = has_history_on (record { small = old.small; fits = c.ranges.serial.fits; may = may; happens = goes; tells_so = c.note.ensures.report ∙ ap (λ (b : Books). next_report b.report e) same; counts = c.note.ensures.count ∙ ap (λ (b : Books). one_more b.count) same; stores = c.note.ensures.notes ∙ ap (λ (b : Books). option_map (λ notes. notes ++ record { event = e; caller = old.speaker } ∷ []) b.notes) same }) old.history;
+      history = has_history_on more old.history;
+      ran = λ serves. ran_on more refl (old.ran serves);
       small = subst (λ (k : ℕ). k < 2 ^ 64) (sym (ap (λ (u : ServerState). u.limit) now)) old.small;
-      live = omega (arith, old.live, more.live, live);
+      live = omega (arith, old.live, joined.live, live);
       at_each_address =
-          λ ip. joined_at ip n peer old.state old.table c.give_place.new.table more (old.at_each_address ip)
+          λ ip. joined_at ip n peer old.state old.table c.give_place.new.table joined (old.at_each_address ip)
           ∙ sym (ap (λ (u : ServerState). count_from ip u.connections) now);
       retired = ap (λ (t : PlacesOut). t.retired) table ∙ old.retired ∙ sym marks;
       limit = ap (λ (t : PlacesOut). t.limit) table ∙ old.limit ∙ sym (ap (λ (u : ServerState). u.limit) now);
@@ -95,6 +101,7 @@ invariant_of-self-in-Err g c =
     let taken = c.in_ok-reserve.ensures.room (room_needed old.state.connections) ∙ old.room in
     record {
       history = has_history_kept (released ∙ reserved) err.1 old.history;
+      ran = λ serves. ran_kept (released ∙ reserved) err.1 (old.ran serves);
       small = subst (λ (k : ℕ). k < 2 ^ 64) (sym (ap (λ (u : ServerState). u.limit) err.1)) old.small;
       live = ap live_of err.0 ∙ old.live ∙ sym (ap (λ (u : ServerState). length u.connections) err.1);
       at_each_address = λ ip. ap (live_at ip) err.0 ∙ old.at_each_address ip ∙ sym (ap (λ (u : ServerState). count_from ip u.connections) err.1);
@@ -113,14 +120,36 @@ returns-in-Err-clause-same_seats g c =
 pub returns-in-Ok-clause-seat : goal.returns-in-Ok-clause-seat
 returns-in-Ok-clause-seat g c = c.in-Ok.ensures.seated
 
-pub returns-in-Ok-clause-noted : goal.returns-in-Ok-clause-noted
-returns-in-Ok-clause-noted g c =
+pub of-requires : goal.of-requires
+of-requires g c =
     let old = c.args.self.now in
     let n = c.args.serial in
     let copied = c.in_ok-copy.ensures in
     let same = c.in_ok-reserve.ensures.same in
     let peer = c.args.peer.now in
+    let shown = c.of-shown.ensures ∙ ap (λ (p : Client). event.Admitted n p) copied in
     record {
+      last = last_of (event.Admitted n peer) _ (yard_roll old) _ (record {
+        may = c.requires.may;
+        happens = c.in-Ok.ensures.admitted;
+        speaks = refl;
+        tells =
+            c.note.ensures.report ∙ ap (λ (p : Client). next_report (books_of_journal c.reserve.new.self).report (event.Admitted n p)) copied
+            ∙ ap (λ (b : Books). next_report b.report (event.Admitted n peer)) same;
+        counts = c.note.ensures.count ∙ ap (λ (b : Books). one_more b.count) same;
+        stores = c.note.ensures.notes ∙ ap (λ (p : Client). option_map (λ notes. notes ++ record { event = event.Admitted n p; caller = old.speaker } ∷ []) (books_of_journal c.reserve.new.self).notes) copied ∙ ap (λ (b : Books). option_map (λ notes. notes ++ record { event = event.Admitted n peer; caller = old.speaker } ∷ []) b.notes) same;
+      }) shown;
+    }
+
+pub returns-in-Ok-clause-made : goal.returns-in-Ok-clause-made
+returns-in-Ok-clause-made g c =
+    let old = c.args.self.now in
+    let n = c.args.serial in
+    let copied = c.in_ok-copy.ensures in
+    let same = c.in_ok-reserve.ensures.same in
+    let peer = c.args.peer.now in
+    let shown = c.of-shown.ensures ∙ ap (λ (p : Client). event.Admitted n p) copied in
+    noted_by (event.Admitted n peer) _ c.of.result (yard_roll old) _ (record {
       may = c.requires.may;
       happens = c.in-Ok.ensures.admitted;
       speaks = refl;
@@ -129,7 +158,7 @@ returns-in-Ok-clause-noted g c =
           ∙ ap (λ (b : Books). next_report b.report (event.Admitted n peer)) same;
       counts = c.note.ensures.count ∙ ap (λ (b : Books). one_more b.count) same;
       stores = c.note.ensures.notes ∙ ap (λ (p : Client). option_map (λ notes. notes ++ record { event = event.Admitted n p; caller = old.speaker } ∷ []) (books_of_journal c.reserve.new.self).notes) copied ∙ ap (λ (b : Books). option_map (λ notes. notes ++ record { event = event.Admitted n peer; caller = old.speaker } ∷ []) b.notes) same;
-    }
+    }) shown c.of.ensures.its c.of.ensures.for_speaker c.of.ensures.at
 
 pub returns-in-Err-clause-refused : goal.returns-in-Err-clause-refused
 returns-in-Err-clause-refused g c =

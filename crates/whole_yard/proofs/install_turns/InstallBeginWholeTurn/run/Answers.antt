@@ -3,12 +3,12 @@ use Rattle.std.specs.Prelude.{IfErr, IfOk, IfSome, Option, option_map}
 use Rattle.rules_install.specs.Installs.{installing}
 use Rattle.rules_install.specs.Steps.{BlamesFault}
 use Rattle.server_events.specs.declared.event.Event.{Event}
+use Rattle.server_yard.specs.Evidence.{IsLast}
 use Rattle.server_yard.specs.Rolls.{NotesSome, Roll}
 use Rattle.whole_yard.specs.Standing.{LeadsSome, Matches, YardState}
 use Rattle.whole_yard.specs.Stepping.{begin_event, kept_after_begin, last_begun_after, lists_after_begin}
 use Rattle.whole_yard.specs.WholeYards.{whole_directory, whole_roll, whole_state}
-use Rattle.shared_site.specs.Receipts.{receipt_at}
-use Rattle.whole_yard.specs.Callers.{IsLastOf}
+use Rattle.whole_yard.specs.Receipts.{receipt_at}
 use Rattle.whole_yard.proofs.Calling.{spoken_state}
 use Rattle.whole_yard.proofs.Calling.{last_of_some, may_begin_from, noted_receipt, some_counted}
 use Rattle.whole_yard.proofs.Installing.{counts_made}
@@ -89,7 +89,7 @@ returns-clause-answers g c =
     let old = whole_roll c.args.yard.now in
     let call = c.install_begin-answer in
     let receipt =
-    c.evidence-made.ensures ∙ ap (option_map (receipt_at (whole_roll c.install_begin-answer.new.self).books.count c.args.caller)) c.begin_event.ensures ∙ noted_receipt (begin_event c.install_begin-answer.result) c.args.caller
+    c.evidence-made.ensures ∙ ap (option_map (receipt_at (whole_roll c.install_begin-answer.new.self).books.count (whole_roll c.install_begin-answer.new.self).speaker)) c.begin_event.ensures ∙ noted_receipt (begin_event c.install_begin-answer.result) c.args.caller
     (whole_roll c.args.yard.now) (whole_roll c.speaker.new.self) (whole_roll c.install_begin-answer.new.self) c.speaker.ensures.speaks c.install_begin-answer.ensures.noted in
     let noted =
     subst (λ (r : Roll). NotesSome (begin_event c.install_begin-answer.result) r (whole_roll c.install_begin-answer.new.self))
@@ -99,6 +99,5 @@ returns-clause-answers g c =
 pub evidence-made-requires : goal.evidence-made-requires
 evidence-made-requires g c =
     let new = whole_roll c.install_begin-answer.new.self in
-    subst (λ (e : Option Event). IfSome e (λ (one : Event). IsLastOf c.args.caller one new)) (sym c.begin_event.ensures)
-    (last_of_some c.args.caller (begin_event c.install_begin-answer.result)
-    (whole_roll c.args.yard.now) (whole_roll c.speaker.new.self) new c.speaker.ensures.speaks c.install_begin-answer.ensures.noted)
+    subst (λ (e : Option Event). IfSome e (λ (one : Event). IsLast one new)) (sym c.begin_event.ensures)
+    (last_of_some (begin_event c.install_begin-answer.result) (whole_roll c.speaker.new.self) new c.install_begin-answer.ensures.noted)

@@ -4,12 +4,13 @@ use Rattle.rules_install.specs.Installing.{Installing}
 use Rattle.rules_install.specs.Steps.{BlamesDevice}
 use Rattle.rules_install.specs.declared.fault.InstallFault.TheVariants.{Over}
 use Rattle.server_events.specs.declared.event.Event.{Event}
+use Rattle.server_yard.specs.Evidence.{IsLast}
 use Rattle.server_yard.specs.Rolls.{NotesSome, Roll}
 use Rattle.whole_yard.specs.Standing.{LeadsSome, Matches, YardState}
 use Rattle.whole_yard.specs.Stepping.{GoesAsStep, event_of_step, step_event}
 use Rattle.whole_yard.specs.WholeYards.{kept_under, whole_books, whole_directory, whole_installing, whole_roll, whole_state}
-use Rattle.shared_site.specs.Receipts.{receipt_after, receipt_at}
-use Rattle.whole_yard.specs.Callers.{IsLastOf, spoken_by}
+use Rattle.whole_yard.specs.Receipts.{receipt_after, receipt_at}
+use Rattle.whole_yard.specs.Callers.{spoken_by}
 use Rattle.whole_yard.proofs.Calling.{spoken_state}
 use Rattle.whole_yard.proofs.Calling.{event_if, last_of_some, noted_receipt, some_counted, spoken_kept}
 use Rattle.whole_yard.proofs.Installing.{counts_made, step_made}
@@ -23,7 +24,7 @@ returns-clause-receipt g c =
     let kept = kept_under mid c.args.self.number in
     let event = ap (λ b. if b then step_event answer else None) c.is_under_way-under_way.ensures ∙ event_if kept answer in
     c.evidence-made.ensures
-    ∙ ap (λ (e : Option Event). option_map (receipt_at (whole_books new).count c.args.caller) e) (c.step_event.ensures ∙ event)
+    ∙ ap (λ (e : Option Event). option_map (receipt_at (whole_books new).count (whole_roll new).speaker) e) (c.step_event.ensures ∙ event)
     ∙ noted_receipt (event_of_step kept answer) c.args.caller
     (whole_roll c.args.yard.now) (whole_roll mid) (whole_roll new) c.speaker.ensures.speaks c.install_step-answer.ensures.noted
     ∙ ap (λ (k : Option Installing). option_map (receipt_after (whole_books c.args.yard.now).count c.args.caller) (event_of_step k answer)) (spoken_kept c.args.yard.now mid c.args.self.number c.speaker.ensures.same)
@@ -103,5 +104,5 @@ evidence-made-requires g c =
     let answer = c.install_step-answer.result in
     let kept = kept_under mid c.args.self.number in
     let event = ap (λ b. if b then step_event answer else None) c.is_under_way-under_way.ensures ∙ event_if kept answer in
-    subst (λ (e : Option Event). IfSome e (λ (one : Event). IsLastOf c.args.caller one new)) (sym (c.step_event.ensures ∙ event))
-    (last_of_some c.args.caller (event_of_step kept answer) (whole_roll c.args.yard.now) (whole_roll mid) new c.speaker.ensures.speaks c.install_step-answer.ensures.noted)
+    subst (λ (e : Option Event). IfSome e (λ (one : Event). IsLast one new)) (sym (c.step_event.ensures ∙ event))
+    (last_of_some (event_of_step kept answer) (whole_roll mid) new c.install_step-answer.ensures.noted)

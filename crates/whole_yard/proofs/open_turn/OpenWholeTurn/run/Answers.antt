@@ -1,16 +1,12 @@
-use Rattle.std.proofs.Common.{inr, refl, sym, ap, subst, ◌∙◌, rules}
+use Rattle.std.proofs.Common.{inr, sym, ap, subst, ◌∙◌}
 use Rattle.std.specs.Prelude.{is_some}
-use Rattle.headline.specs.Worlds.{missing_by}
 use Rattle.server_events.specs.declared.event.Event.TheVariants as event
 use Rattle.server_yard.specs.Passes.{pass_bytes, pass_file}
 use Rattle.whole_yard.specs.Standing.{LeadsOpened, Matches, YardState, standing_of}
 use Rattle.whole_yard.specs.WholeYards.{whole_directory, whole_roll, whole_state}
-use Rattle.whole_yard.proofs.Calling.{answered, last_of, noted_by, same_from, spoken_state}
+use Rattle.whole_yard.proofs.Calling.{answered, noted_by, same_from, spoken_state}
 use Rattle.whole_yard.proofs.Counts.{one_counted}
 use Rattle.whole_yard.proofs.open_turn.OpenWholeTurn.run.Goals as goal
-
-pub returns-in-Ok-clause-missing : goal.returns-in-Ok-clause-missing
-returns-in-Ok-clause-missing g c = c.in-Ok.ensures.missing ∙ ap missing_by c.speaker.ensures.same.rules
 
 pub returns-in-Ok-clause-found : goal.returns-in-Ok-clause-found
 returns-in-Ok-clause-found g c = λ honest.
@@ -21,15 +17,15 @@ returns-in-Ok-clause-found g c = λ honest.
 
 pub returns-in-Ok-clause-noted : goal.returns-in-Ok-clause-noted
 returns-in-Ok-clause-noted g c =
-    let e = event.Opened c.args.self.serial (is_some (pass_file c.in-Ok.pass)) in
+    let e = event.Opened c.args.self.serial (is_some (pass_file c.in-Ok.opened.0)) in
     noted_by c.args.caller e (whole_roll c.args.yard.now) (whole_roll c.speaker.new.self) (whole_roll c.open.new.self)
-    c.speaker.ensures.speaks c.in-Ok.ensures.noted
+    c.speaker.ensures.speaks c.in-Ok.ensures.noted.noted
 
 pub returns-in-Ok-clause-step : goal.returns-in-Ok-clause-step
 returns-in-Ok-clause-step g c = λ honest.
     let old = c.args.yard.now in
     let mid = c.speaker.new.self in
-    subst (λ (s : YardState). LeadsOpened c.args.self.serial (pass_bytes g.D.File.RulesFile.bytes c.in-Ok.pass) s (whole_state c.open.new.self))
+    subst (λ (s : YardState). LeadsOpened c.args.self.serial (pass_bytes g.D.File.RulesFile.bytes c.in-Ok.opened.0) s (whole_state c.open.new.self))
     (spoken_state c.args.caller old mid c.speaker.ensures.speaks c.speaker.ensures.same) (c.in-Ok.ensures.step honest)
 
 pub returns-in-Ok-clause-without : goal.returns-in-Ok-clause-without
@@ -104,17 +100,10 @@ returns-then-ne-clause-stops g c = λ honest files w image at left.
 pub returns-in-Ok-clause-counts : goal.returns-in-Ok-clause-counts
 returns-in-Ok-clause-counts g c =
     one_counted c.args.caller _ (whole_roll c.args.yard.now) (whole_roll c.speaker.new.self) (whole_roll c.open.new.self)
-    c.speaker.ensures.speaks c.in-Ok.ensures.noted
-
-pub made-requires : goal.made-requires
-made-requires g c = record {
-  last = last_of c.args.caller _ _ (whole_roll c.args.yard.now) (whole_roll c.speaker.new.self) (whole_roll c.open.new.self)
-      c.speaker.ensures.speaks c.in-Ok.ensures.noted (search rules);
-}
+    c.speaker.ensures.speaks c.in-Ok.ensures.noted.noted
 
 pub returns-in-Ok-clause-answers : goal.returns-in-Ok-clause-answers
 returns-in-Ok-clause-answers g c =
-    let e = event.Opened c.args.self.serial (is_some (pass_file c.in-Ok.pass)) in
-    let its = answered c.args.caller e e c.made.result
-    (whole_roll c.args.yard.now) (whole_roll c.open.new.self) (returns-in-Ok-clause-noted g c) refl (search rules) in
+    let e = event.Opened c.args.self.serial (is_some (pass_file c.in-Ok.opened.0)) in
+    let its = answered c.args.caller e c.in-Ok.opened.1 (whole_roll c.args.yard.now) (whole_roll c.speaker.new.self) (whole_roll c.open.new.self) c.speaker.ensures.speaks c.in-Ok.ensures.noted in
     ((c.in-Ok.ensures.its, its.0, its.1), tt)

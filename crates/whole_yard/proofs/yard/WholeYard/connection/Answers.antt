@@ -3,7 +3,7 @@ use mathlib.Core.Logic.{∥∥₁_map}
 use Rattle.server_yard.specs.Rolls.{Roll}
 use Rattle.server_yard.specs.Rooms.{KeepsRoom}
 use Rattle.server_yard.specs.Yards.{yard_books, yard_roll}
-use Rattle.shared_site.specs.Turns.{NotesTold}
+use Rattle.whole_yard.specs.ConnectionTurns.{NotesTold}
 use Rattle.whole_yard.specs.Callers.{spoken_by}
 use Rattle.whole_yard.proofs.Keeping.{kept_told, phase_told}
 use Rattle.whole_yard.proofs.yard.WholeYard.connection.Goals as goal
@@ -15,8 +15,8 @@ returns g c =
     let ran = c.run.ensures in
     let after = yard_roll c.run.new.yard in
     record {
-      answers = subst (λ (r : Roll). g.T.Turn.answers c.args.turn r.speaker r.books.count c.run.result (yard_books c.run.new.yard).count) speaks ran.answers;
-      notes = subst (λ (r : Roll). NotesTold (g.T.Turn.tells c.args.turn c.run.result) r after) speaks ran.notes;
+      answers = subst (λ (r : Roll). g.T.ConnectionTurn.answers c.args.turn r.speaker r.books.count c.run.result (yard_books c.run.new.yard).count) speaks ran.answers;
+      notes = subst (λ (r : Roll). NotesTold (g.T.ConnectionTurn.tells c.args.turn c.run.result) r after) speaks ran.notes;
       room = subst (λ (r : Roll). KeepsRoom r after) speaks ran.room;
       same = record {
         directory = refl;
@@ -24,7 +24,7 @@ returns g c =
         installing = refl;
         kept = refl;
         begun = refl;
-        lists_same = ran.same.lists_same ∙ c.speaker.ensures.same.lists_same;
+        lists_same = ran.same ∙ c.speaker.ensures.same;
       };
     }
 
@@ -35,14 +35,14 @@ invariant_of-self g c =
     let spoke = c.speaker.ensures in
     let ran = c.run.ensures in
     let after = yard_roll c.run.new.yard in
-    let notes = subst (λ (r : Roll). NotesTold (g.T.Turn.tells c.args.turn c.run.result) r after) spoke.speaks ran.notes in
+    let notes = subst (λ (r : Roll). NotesTold (g.T.ConnectionTurn.tells c.args.turn c.run.result) r after) spoke.speaks ran.notes in
     record {
       honest = old.honest;
-      missing = ran.same.missing ∙ spoke.same.missing ∙ old.missing;
+      installs = old.installs;
       told = old.told;
       phase = old.phase ∙ sym (phase_told _ before after notes);
       going = old.going;
       finds = old.finds;
       installed = λ met. ∥∥₁_map (old.installed met)
-          (λ k. kept_told _ before after notes old.yard.small (ran.same.lists_same ∙ spoke.same.lists_same) _ _ _ k);
+          (λ k. kept_told _ before after notes old.yard.small (ran.same ∙ spoke.same) _ _ _ k);
     }

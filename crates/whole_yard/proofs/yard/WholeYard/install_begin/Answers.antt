@@ -58,7 +58,7 @@ invariant_of-self g c =
     let kept = ap installing_of c.becomes.ensures in
     record {
       honest = old.honest;
-      missing = made.ensures.missing ∙ old.missing;
+      installs = old.installs;
       told = old.told;
       phase = ap phase_of kept ∙ reached ∙ sym (ap (λ (u : ServerState). u.phase) noted.happens ∙ ap phase_after is);
       going = λ x same. subst (λ (u : Installing). IsGoing u rules) (same_some t x (sym kept ∙ same)) (going_at s t rules Fresh (λ e. absurd (cc)) c.in-Ok.ensures.same (named_by rules s.names.cdb may.for_rules) (λ none. none_not_some r.0 (sym none ∙ r.1)) goes.2 reached);
@@ -88,7 +88,7 @@ invariant_of-self-then-is_of_disk g c =
     let none = ap installing_of c.becomes-then-is_of_disk.ensures in
     record {
       honest = old.honest;
-      missing = made.ensures.missing ∙ old.missing;
+      installs = old.installs;
       told = old.told;
       phase = ap phase_of none ∙ sym (disk_phase fault (yard_roll old.yard) (yard_roll made.new.yard) disk c.in-Err.ensures.noted);
       going = λ x same. absurd (none_not_some x (sym none ∙ same));
@@ -152,7 +152,7 @@ invariant_of-self-else-is_of_disk g c =
     let quiet = quiet_of fault (yard_roll old.yard) (yard_roll made.new.yard) other c.in-Err.ensures.noted in
     record {
       honest = old.honest;
-      missing = made.ensures.missing ∙ old.missing;
+      installs = old.installs;
       told = old.told;
       phase = old.phase ∙ sym (ap (λ (u : ServerState). u.phase) quiet.stays);
       going = old.going;

@@ -45,7 +45,7 @@ invariant_of-self g c =
     let same = ap installing_of (c.replace.ensures.after ∙ c.in-Idle.ensures.value) in
     record {
       honest = old.honest;
-      missing = old.missing;
+      installs = old.installs;
       told = old.told;
       phase = ap phase_of same ∙ old.phase;
       going = λ x is. old.going x (sym same ∙ is);
@@ -59,7 +59,7 @@ invariant_of-self-in-AtDone g c =
     let same = ap installing_of (c.becomes.ensures ∙ c.in-AtDone.ensures.value) in
     record {
       honest = old.honest;
-      missing = old.missing;
+      installs = old.installs;
       told = old.told;
       phase = ap phase_of same ∙ old.phase;
       going = λ x is. old.going x (sym same ∙ is);
@@ -81,7 +81,7 @@ invariant_of-self-in-UnderWay g c =
     let r = some_rules (rules_of old.rules) going.follows in
     record {
       honest = old.honest;
-      missing = made.ensures.missing ∙ old.missing;
+      installs = old.installs;
       told = old.told;
       phase = ap phase_of kept ∙ phase_then s t (next_phase s) result (yard_roll old.yard) (yard_roll made.new.yard) made.ensures.noted made.ensures.goes (sym (ap phase_of inst) ∙ old.phase);
       going = λ x is. going_then s t (next_phase s) result (rules_of old.rules) made.ensures.same going.for_rules going.follows (λ none. going) made.ensures.goes x (sym kept ∙ is);

@@ -1,5 +1,5 @@
 use Rattle.server_events.specs.JournalParts.{books_of_journal}
-use Rattle.std.proofs.Common.{[], refl, sym, ap, ◌∙◌}
+use Rattle.std.proofs.Common.{[], refl, sym, ap}
 use Rattle.server_events.specs.Journals.{Books}
 use Rattle.server_events.specs.ServerState.{ServerState}
 use Rattle.server_yard.proofs.Histories.{history_same, none_yet}
@@ -16,7 +16,7 @@ invariant_of-result g c =
     let none = c.requires.journal in
     record {
       honest = λ met. (c.requires.begins met).0;
-      missing = made.has_missing ∙ c.missing_of-missing.ensures ∙ c.requires.missing;
+      installs = c.requires.installs;
       told = c.requires.missing;
       phase = sym (ap (λ (u : ServerState). u.phase) server);
       going = λ s is. absurd (none_not_some s is);

@@ -2,8 +2,8 @@ use Rattle.std.proofs.Common.{◌≡◌, ◌⊎◌, Bool, ap, refl, sym, subst, 
 use Rattle.std.specs.Prelude.{is_some, option_map}
 use Rattle.dir_calls.specs.Images.{IsImage}
 use Rattle.headline.specs.Steps.{MayLeave}
-use Rattle.headline.specs.Worlds.{missing_by}
 use Rattle.server_events.specs.declared.event.Event.TheVariants as event
+use Rattle.server_yard.specs.Evidence.{IsNoted}
 use Rattle.server_yard.specs.Passes.{pass_bytes, pass_file}
 use Rattle.server_yard.specs.Rolls.{Notes, Roll}
 use Rattle.server_yard.specs.Rooms.{KeepsRoom}
@@ -13,25 +13,22 @@ use Rattle.whole_yard.proofs.Keeping.{is_some-map, own_then}
 use Rattle.whole_yard.proofs.Matching.{opened_leads}
 use Rattle.whole_yard.proofs.yard.WholeYard.open.Goals as goal
 
-pub returns-clause-missing : goal.returns-clause-missing
-returns-clause-missing g c = c.opened.ensures.missing ∙ ap missing_by c.find.ensures.same.rules
-
 pub returns-clause-found : goal.returns-clause-found
 returns-clause-found g c = λ honest.
     ap (λ file. option_map g.D.File.RulesFile.bytes file) c.opened.ensures.found ∙ c.in_ok-file.ensures.found honest
 
 pub returns-clause-noted : goal.returns-clause-noted
 returns-clause-noted g c =
-    subst (λ (r : Roll). Notes (event.Opened c.args.serial (is_some (pass_file c.opened.result))) r (whole_roll c.opened.new.self)) c.find.ensures.roll c.opened.ensures.noted
+    subst (λ (r : Roll). IsNoted (event.Opened c.args.serial (is_some (pass_file c.opened.result.0))) c.opened.result.1 r (whole_roll c.opened.new.self)) c.find.ensures.roll c.opened.ensures.noted
 
 pub returns-clause-step : goal.returns-clause-step
 returns-clause-step g c = λ honest.
     let mid = c.find.new.self in
     let new = c.opened.new.self in
     let n = c.args.serial in
-    let file = pass_file c.opened.result in
-    let bytes = pass_bytes g.D.File.RulesFile.bytes c.opened.result in
-    let noted = subst (λ (b : Bool). Notes (event.Opened n b) (whole_roll mid) (whole_roll new)) (sym (is_some-map g.D.File.RulesFile.bytes file)) c.opened.ensures.noted in
+    let file = pass_file c.opened.result.0 in
+    let bytes = pass_bytes g.D.File.RulesFile.bytes c.opened.result.0 in
+    let noted = subst (λ (b : Bool). Notes (event.Opened n b) (whole_roll mid) (whole_roll new)) (sym (is_some-map g.D.File.RulesFile.bytes file)) c.opened.ensures.noted.noted in
     subst (λ (y : YardState). bytes ≡ standing_of y → LeadsOpened n bytes y (whole_state new)) (c.find.ensures.state honest)
     (λ found. subst (λ (z : YardState). LeadsOpened n bytes (whole_state mid) z) (sym (own_then mid new c.opened.ensures.same))
     (opened_leads (whole_state mid) n bytes (whole_roll mid) (whole_roll new) found noted))

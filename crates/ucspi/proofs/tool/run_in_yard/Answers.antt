@@ -2,7 +2,7 @@
 use mir.Syntax.{named}
 use denote.Param.Send.{sendable}
 use Rattle.tcp_streams.proofs.Crossing.{job_send}
-use Rattle.ucspi.proofs.tool.run_site.Goals as goal
+use Rattle.ucspi.proofs.tool.run_in_yard.Goals as goal
 
 pub serve-requires-send-H-Job : goal.serve-requires-send-H-Job
 serve-requires-send-H-Job g c κs within =

@@ -1,4 +1,0 @@
--- Lemmas.
-pub mod Counting
-pub mod Making
-pub mod Running

@@ -1,0 +1,28 @@
+-- What the log is told of events.
+use Rattle.std.specs.Prelude.{◌≡◌, Result}
+use Rattle.server_events.specs.declared.event.Event.{Event}
+use Rattle.server_events.specs.declared.event.Event.TheVariants as event
+use Rattle.server_log.specs.declared.told.Told.{Told}
+use Rattle.server_log.specs.declared.told.Told.TheVariants as told
+use Rattle.server_yard.specs.Evidence.{asked_event}
+use Rattle.server_yard.specs.declared.evidence.Made.{Made}
+use Rattle.server_yard.specs.declared.evidence.OutOfTurn.{OutOfTurn}
+use Rattle.tcp_service.specs.declared.reporting.Reported.{Reported}
+
+-- a log that is told this is told this event, as it was
+abbrev pub Tells : Told → Event → Type 0
+Tells (told.Admitted n ip) (event.Admitted m peer) = (n ≡ m) × (ip ≡ peer.ip)
+Tells (told.Decided n verdict local peer file) (event.Decided m decision) = (n ≡ m) × (verdict ≡ decision.verdict)
+Tells (told.Started n process) (event.Started m) = n ≡ m
+Tells (told.StartFailed n fault cause) (event.StartFailed m why) = (n ≡ m) × (fault ≡ why)
+Tells (told.Ended n status signal) (event.Ended m end) = (n ≡ m) × (status ≡ end)
+Tells (told.Retired n) (event.Retired m) = n ≡ m
+Tells (told.Dropped n cause file words) (event.Dropped m why) = (n ≡ m) × (cause ≡ why)
+Tells other event = ⊥
+
+-- what a yard answered, and the event that it was asked for
+abbrev pub reported_answer : Reported → Result Made OutOfTurn
+reported_answer reported = reported.answer
+
+abbrev pub reported_event : Reported → Event
+reported_event reported = asked_event (reported_answer reported)
