@@ -370,6 +370,8 @@ def beside_a_long_connection(suite):
     with suite.start(["-v", "-c", "3"], ECHO, env=variables) as server, server.connect("127.0.0.2") as held:
         held.sendall(b"b")
         suite.expect("the one that stays", held.recv(1), b"b")
+        # by this one there is a worker that waits for the next
+        suite.expect("one with memory", server.ask(b"a\n"), b"a\n")
         run.turn(True)
         suite.expect("one without memory", server.ask(b"a\n"), b"")
         run.turn(False)

@@ -21,7 +21,7 @@ use Rattle.fault_hints.specs.Voices.{detail_of}
 use Rattle.server_words.specs.declared.level.Level.{Level}
 use Rattle.server_words.specs.declared.level.Level.TheVariants.{Quiet, Errors, All}
 use Rattle.server_log.specs.Causes.{CauseText}
-use Rattle.server_log.specs.declared.told.Told.{Told}
+use Rattle.server_log.specs.declared.lines.Told.{Told}
 
 -- a field that may be absent
 abbrev pub field : Option (List ℕ) → List ℕ

@@ -12,10 +12,9 @@ pub mod fault;
 mod lines;
 pub mod log;
 pub mod pieces;
-pub mod told;
 
 pub use cause::Cause;
 pub use fault::LogFault;
+pub use lines::Told;
 pub use log::Log;
 pub use pieces::{Piece, append_line, push_pieces};
-pub use told::Told;

@@ -1,19 +1,65 @@
 //! The lines of the log, and those of each event at each level.
 ghost use Rattle.std.specs.Prelude.{◌≡◌, ◌++◌, List, [], ◌∷◌, ℕ, if◌then◌else◌};
 ghost use Rattle.rule_lookup.specs.Peers.{given};
-ghost use Rattle.server_log.specs.Lines.{cause_text, drop_lines, end_lines, end_text, event_lines, fault_text, of_cause, progress, runs_lines, signal_lines, start_text, status_line, status_lines, status_text, verdict_text, verdict_word};
+ghost use Rattle.server_log.specs.Lines.{cause_text, drop_lines, drop_text, end_lines, end_text, event_lines, fault_text, of_cause, pid_line, progress, retired_text, runs_lines, runs_text, signal_lines, signal_text, start_text, status_line, status_lines, status_text, verdict_text, verdict_word};
 ghost use Rattle.server_log.specs.Logs.{Holds};
 ghost use Rattle.server_log.specs.Pieces.{line_of, piece_text, told_lines};
 
 use crate::cause::Cause;
 use crate::pieces::Piece::{Address, Field, Name, Number, Text};
 use crate::pieces::{Piece, append_line};
-use crate::told::Told;
 use child_jobs::{DropCause, Local, StartFault, Status};
 use fault_hints::{Detail, Voice};
 use rule_lookup::{Peer, Verdict};
 use server_words::Level;
 use std::alloc::{AllocError, Global};
+
+/// An event of a connection, with what its lines need. Other events have no lines.
+#[derive(Drop)]
+pub enum Told<'a> {
+    /// It was let in, from this address.
+    Admitted {
+        serial: u64,
+        ip: [u8; 4],
+    },
+    /// It was decided, between these ends; without the rules file, if this says why there is none.
+    Decided {
+        serial: u64,
+        verdict: Verdict,
+        local: &'a Local,
+        peer: &'a Peer,
+        file: Option<Cause<'a>>,
+    },
+    /// Its child was started, and is this process of the system if that is known.
+    Started {
+        serial: u64,
+        process: Option<u32>,
+    },
+    /// Its child could not be started, by this cause if the system told one.
+    StartFailed {
+        serial: u64,
+        fault: StartFault,
+        cause: Option<Cause<'a>>,
+    },
+    /// Its child ended; by this signal, if one is known.
+    Ended {
+        serial: u64,
+        status: Status,
+        signal: Option<u32>,
+    },
+    /// Its child could not be waited for.
+    Retired {
+        serial: u64,
+    },
+    /// It was given up before its child was started: by what is wrong with the rules file, if that is known, and by
+    /// this cause of the system or this damage if there was one.
+    Dropped {
+        serial: u64,
+        cause: DropCause,
+        file: Option<Cause<'a>>,
+        why: Option<Cause<'a>>,
+    },
+}
 
 /// What decides which lines are told, and the server's limit of connections.
 #[derive(Clone, Copy)]
@@ -97,13 +143,7 @@ impl Lines {
         match told {
             Told::Admitted { serial, ip } => {
                 self.add_status(to, live);
-                let pid = [
-                    Text("tcpserver: pid "),
-                    Number(serial),
-                    Text(" from "),
-                    Address(ip),
-                ];
-                self.add(to, Shown::Progress, &pid);
+                self.add(to, Shown::Progress, &pid_line(serial, ip));
             }
             Told::Decided {
                 serial,
@@ -112,7 +152,8 @@ impl Lines {
                 peer,
                 file,
             } => {
-                self.add_verdict(to, verdict, serial, local, peer);
+                let line = verdict_line(verdict, serial, local, peer);
+                self.add(to, Shown::Progress, &line);
                 self.add_cause(to, Shown::Hint, file);
             }
             Told::Started { serial, process } => self.add_runs(to, serial, process),
@@ -142,8 +183,7 @@ impl Lines {
                 signal,
             } => self.add_exit(to, serial, status, signal),
             Told::Retired { serial } => {
-                let retired = [Text("tcpserver: retired "), Number(serial)];
-                self.add(to, Shown::Fault, &retired);
+                self.add(to, Shown::Fault, &retired_line(serial));
             }
             Told::Dropped {
                 serial,
@@ -167,54 +207,13 @@ impl Lines {
         self.add(to, Shown::Progress, &status_line(live, to.limit));
     }
 
-    /// Adds what was decided of a connection, with its two ends.
-    fn add_verdict<'a>(
-        &mut self,
-        to: Settings,
-        verdict: Verdict,
-        serial: u64,
-        local: &'a Local,
-        peer: &'a Peer,
-    )
-        ensures { (lines : List (List ℕ)) → Holds lines self.old
-            → Holds (lines ++ progress to.level (verdict_text verdict serial local.now peer.now)) self.new }
-    {
-        let pieces = [
-            Text("tcpserver: "),
-            Text(verdict_word(verdict)),
-            Number(serial),
-            Text(" "),
-            Name(local.host()),
-            Text(":"),
-            Address(local.ip()),
-            Text(":"),
-            Number(u64::from(local.port())),
-            Text(" "),
-            Name(peer.host()),
-            Text(":"),
-            Address(peer.ip()),
-            Text(":"),
-            Name(peer.info()),
-            Text(":"),
-            Number(u64::from(peer.port())),
-        ];
-        self.add(to, Shown::Progress, &pieces);
-    }
-
     /// Adds which process runs a connection's program, if that is known.
     fn add_runs(&mut self, to: Settings, serial: u64, process: Option<u32>)
         ensures { (lines : List (List ℕ)) → Holds lines self.old
             → Holds (lines ++ runs_lines to.level to.voice serial process) self.new }
     {
         if let Some(process) = process {
-            let process = Number(u64::from(process));
-            let pieces = [
-                Text("tcpserver: runs "),
-                Number(serial),
-                Text(" process "),
-                process,
-            ];
-            self.add(to, Shown::Person, &pieces);
+            self.add(to, Shown::Person, &runs_line(serial, process));
         }
     }
 
@@ -224,23 +223,9 @@ impl Lines {
             → Holds ((lines ++ progress to.level (end_text serial status))
             ++ signal_lines to.level to.voice serial signal) self.new }
     {
-        let status = status_piece(status);
-        let pieces = [
-            Text("tcpserver: end "),
-            Number(serial),
-            Text(" status "),
-            status,
-        ];
-        self.add(to, Shown::Progress, &pieces);
+        self.add(to, Shown::Progress, &end_line(serial, status));
         if let Some(signal) = signal {
-            let signal = Number(u64::from(signal));
-            let pieces = [
-                Text("tcpserver: cause: "),
-                Number(serial),
-                Text(": signal "),
-                signal,
-            ];
-            self.add(to, Shown::Person, &pieces);
+            self.add(to, Shown::Person, &signal_line(serial, signal));
         }
     }
 
@@ -250,13 +235,7 @@ impl Lines {
             → Holds (lines ++ drop_lines to.level serial (cause_text cause)) self.new }
     {
         if let Some(words) = cause_words(cause) {
-            let pieces = [
-                Text("tcpserver: drop "),
-                Number(serial),
-                Text(" "),
-                Text(words),
-            ];
-            self.add(to, Shown::Fault, &pieces);
+            self.add(to, Shown::Fault, &drop_line(serial, words));
         }
     }
 
@@ -286,6 +265,103 @@ pub(crate) fn status_line(live: u64, limit: u64) -> [Piece<'static>; 4]
         Number(live),
         Text("/"),
         Number(limit),
+    ]
+}
+
+/// The line of a connection that was let in.
+fn pid_line(serial: u64, ip: [u8; 4]) -> [Piece<'static>; 4]
+    ensures { line_of result ≡ pid_line serial ip }
+{
+    [
+        Text("tcpserver: pid "),
+        Number(serial),
+        Text(" from "),
+        Address(ip),
+    ]
+}
+
+/// The line of what was decided of a connection, with its two ends.
+fn verdict_line<'a>(
+    verdict: Verdict,
+    serial: u64,
+    local: &'a Local,
+    peer: &'a Peer,
+) -> [Piece<'a>; 17]
+    ensures { line_of result ≡ verdict_text verdict serial local.now peer.now }
+{
+    [
+        Text("tcpserver: "),
+        Text(verdict_word(verdict)),
+        Number(serial),
+        Text(" "),
+        Name(local.host()),
+        Text(":"),
+        Address(local.ip()),
+        Text(":"),
+        Number(u64::from(local.port())),
+        Text(" "),
+        Name(peer.host()),
+        Text(":"),
+        Address(peer.ip()),
+        Text(":"),
+        Name(peer.info()),
+        Text(":"),
+        Number(u64::from(peer.port())),
+    ]
+}
+
+/// The line of which process runs a connection's program.
+fn runs_line(serial: u64, process: u32) -> [Piece<'static>; 4]
+    ensures { line_of result ≡ runs_text serial process }
+{
+    [
+        Text("tcpserver: runs "),
+        Number(serial),
+        Text(" process "),
+        Number(u64::from(process)),
+    ]
+}
+
+/// The line of how a connection's child ended.
+fn end_line(serial: u64, status: Status) -> [Piece<'static>; 4]
+    ensures { line_of result ≡ end_text serial status }
+{
+    [
+        Text("tcpserver: end "),
+        Number(serial),
+        Text(" status "),
+        status_piece(status),
+    ]
+}
+
+/// The line of the signal by which it ended.
+fn signal_line(serial: u64, signal: u32) -> [Piece<'static>; 4]
+    ensures { line_of result ≡ signal_text serial signal }
+{
+    [
+        Text("tcpserver: cause: "),
+        Number(serial),
+        Text(": signal "),
+        Number(u64::from(signal)),
+    ]
+}
+
+/// The line of a child that could not be waited for.
+fn retired_line(serial: u64) -> [Piece<'static>; 2]
+    ensures { line_of result ≡ retired_text serial }
+{
+    [Text("tcpserver: retired "), Number(serial)]
+}
+
+/// The line of why a connection was dropped.
+fn drop_line<'a>(serial: u64, words: &'a str) -> [Piece<'a>; 4]
+    ensures { line_of result ≡ drop_text serial words.now }
+{
+    [
+        Text("tcpserver: drop "),
+        Number(serial),
+        Text(" "),
+        Text(words),
     ]
 }
 

@@ -7,10 +7,9 @@ ghost use Rattle.server_log.specs.Logs.{Holds, IsLater, KeepsSettings, Logged, T
 ghost use Rattle.server_log.specs.Pieces.{line_of, told_lines};
 
 use crate::fault::LogFault;
-use crate::lines::{Lines, Settings, Shown, status_line};
+use crate::lines::{Lines, Settings, Shown, Told, status_line};
 use crate::pieces::Piece;
 use crate::pieces::Piece::{Address, Number, Text};
-use crate::told::Told;
 use byte_streams::write_out;
 use fault_hints::Voice;
 use server_words::Level;

@@ -2,7 +2,7 @@
 use Rattle.std.proofs.Common.{subst, sym}
 use Rattle.std.specs.Prelude.{◌≡◌, Result, Ok, Err}
 use Rattle.server_events.specs.declared.event.Event.{Event}
-use Rattle.server_log.specs.declared.told.Told.{Told}
+use Rattle.server_log.specs.declared.lines.Told.{Told}
 use Rattle.server_yard.specs.Evidence.{Makes, asked_event}
 use Rattle.server_yard.specs.declared.evidence.Made.{Made}
 use Rattle.server_yard.specs.declared.evidence.OutOfTurn.{OutOfTurn}

@@ -2,8 +2,8 @@
 use Rattle.std.specs.Prelude.{◌≡◌, Result}
 use Rattle.server_events.specs.declared.event.Event.{Event}
 use Rattle.server_events.specs.declared.event.Event.TheVariants as event
-use Rattle.server_log.specs.declared.told.Told.{Told}
-use Rattle.server_log.specs.declared.told.Told.TheVariants as told
+use Rattle.server_log.specs.declared.lines.Told.{Told}
+use Rattle.server_log.specs.declared.lines.Told.TheVariants as told
 use Rattle.server_yard.specs.Evidence.{asked_event}
 use Rattle.server_yard.specs.declared.evidence.Made.{Made}
 use Rattle.server_yard.specs.declared.evidence.OutOfTurn.{OutOfTurn}

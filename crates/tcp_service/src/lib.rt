@@ -20,4 +20,4 @@ pub mod serving;
 pub mod telling;
 
 pub use host::{Host, Rules, RulesHandle, ServiceGround};
-pub use server::{Context, Server, Service};
+pub use server::{Context, Server};

@@ -7,19 +7,20 @@ use crate::host::{Host, ServiceGround};
 use child_jobs::Plan;
 use rule_lookup::WhenMissing;
 use server_log::Log;
-use server_words::ConnectionLimits;
 use server_yard::Yard;
 use std::alloc::Global;
 use std::sync::Mutex;
-use tcp_connections::{HostNames, Reserve, Supply};
+use tcp_connections::HostNames;
 
-/// What all connections of a server are decided and told by.
+/// What all connections of a server are named, decided and told by.
 #[derive(Drop)]
 pub struct Context<'a, G: ServiceGround> {
     /// The runtime.
     pub rt: &'a G::Runtime,
     /// What gives memory.
     pub alloc: Global,
+    /// How their ends get their names.
+    pub names: &'a HostNames,
     /// The yard that their events are made in.
     pub yard: &'a Mutex<Yard<G::Places>>,
     /// The rules, which each connection opens for itself.
@@ -37,23 +38,8 @@ pub struct Context<'a, G: ServiceGround> {
 /// code that is generic in the host knows of no other start.
 #[derive(Drop)]
 pub struct Server<'a, H: Host> {
-    /// What connections are decided and told by.
+    /// What connections are named, decided and told by.
     pub context: Context<'a, H>,
-    /// What is done for all of them.
-    pub service: &'a Service,
     pub ghost may: { MayStartEach (IsFoundFor (H.Rules.gives context.rules.now) H.Handle.opened H.Places.missing)
         H.File.honest H.File.sound context.plan.now H.Connection.contents H.Connection.may },
-}
-
-/// What a server does for all of its connections.
-#[derive(Drop)]
-pub struct Service {
-    /// How many connections there may be at once, in all and from one address, and after how many the server ends.
-    pub limits: ConnectionLimits,
-    /// How the ends of a connection get their names.
-    pub names: HostNames,
-    /// What the system gives it for its connections.
-    pub supply: Supply,
-    /// The process that is kept in reserve for their programs.
-    pub reserve: Reserve,
 }

@@ -64,7 +64,7 @@ where
     type Over = Over;
 
     ghost is_its = { λ server came admitted.
-        IsAccepted server.service.now.names admitted.guest came };
+        IsAccepted server.context.names.now admitted.guest came };
 
     ghost count = { H.Places.admissions };
 
@@ -77,7 +77,7 @@ where
         came: Accepted<H::Connection>,
     ) -> Result<Admitted<H>, Refused<NoNumbers>> {
         let context = &self.context;
-        let Some((peer, local)) = ends_of(context.alloc, &self.service.names, &came) else {
+        let Some((peer, local)) = ends_of(context.alloc, context.names, &came) else {
             drop(came);
             let _ = context.log.lock(context.rt).out_of_memory();
             return Err(Refused::Once);

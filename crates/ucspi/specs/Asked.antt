@@ -1,29 +1,23 @@
 -- Whether what a server has is what its words ask for.
 use Rattle.std.specs.Prelude.{◌≡◌, ℕ, List}
-use Rattle.child_jobs.specs.Plans.{PlanText}
 use Rattle.fault_hints.specs.declared.voice.Voice.{Voice}
 use Rattle.server_log.specs.Logs.{level_of, limit_of, voice_of}
 use Rattle.server_log.specs.declared.log.Log.{Log}
 use Rattle.server_parts.specs.Asked.{IsAskedPlan}
 use Rattle.server_parts.specs.Services.{AreNamesOf, IsSupplyIn}
 use Rattle.server_words.specs.Plans.{ServerPlan}
-use Rattle.tcp_service.specs.declared.server.Service.{Service}
 use Rattle.tcp_streams.specs.Asked.{IsAskedPassing, acceptor_starter, accepts_at_once, accepts_from, passing_of}
-use Rattle.tcp_streams.specs.declared.passing.Passing.{Passing}
 use Rattle.tcp_streams.specs.declared.sockets.SocketAcceptor.{SocketAcceptor}
+use Rattle.ucspi.specs.declared.serving.ServerParts.{ServerParts}
 
--- what a server does for all connections: the limits of `-c`, `-k` and `-m`; names by `-N`, `-l`, `-h`, `-H` and `-p`;
--- and what a connection takes that is handed over or pumped
-pub record IsAskedService (words : ServerPlan) (service : Service) : Type 0 where
-  pub limits : service.limits ≡ words.limits
-  pub names : AreNamesOf words service.names
-  pub supply : IsSupplyIn words.mode service.supply
-
--- the same with the plan of each connection, and how its bytes pass
-pub record AreAsked (words : ServerPlan) (plan : PlanText) (service : Service) (passing : Passing) : Type 0 where
-  pub planned : IsAskedPlan words plan
-  pub served : IsAskedService words service
-  pub passed : IsAskedPassing words passing
+-- a server has the plan of each connection; the limits of `-c`, `-k` and `-m`; names by `-N`, `-l`, `-h`, `-H` and `-p`;
+-- what a connection takes that is handed over or pumped, and how its bytes pass
+pub record AreAsked {W : Type 0} (words : ServerPlan) (server : ServerParts W) : Type 0 where
+  pub planned : IsAskedPlan words server.plan
+  pub limited : server.limits ≡ words.limits
+  pub named : AreNamesOf words server.names
+  pub supplied : IsSupplyIn words.mode server.supply
+  pub passed : IsAskedPassing words server.passing
 
 -- the log has the lines of `-v`, `-Q` or `-q`, in this voice, and tells the limit of `-c`
 pub record IsAskedLog {W : Type 0} (words : ServerPlan) (speaker : Voice) (log : Log W) : Type 0 where

@@ -15,13 +15,37 @@ use child_jobs::Plan;
 use rule_lookup::WhenMissing;
 use server_log::Log;
 use server_parts::ServerFailure;
+use server_words::ConnectionLimits;
 use server_yard::{NoNumbers, Places, Yard};
 use std::alloc::Global;
 use std::sync::Mutex;
 use std::thread::Threads;
 use std::time::Clock;
-use tcp_connections::{Accepted, Acceptor, Faults, ServeEnd, Supply, Workers};
-use tcp_service::{Context, Host, Server, Service};
+use stream_tools::SearchPath;
+use tcp_connections::{Accepted, Acceptor, Faults, HostNames, Reserve, ServeEnd, Supply, Workers};
+use tcp_service::{Context, Host, Server};
+use tcp_streams::Passing;
+
+/// What a server has but for its yard and its socket.
+#[derive(Drop)]
+pub(crate) struct ServerParts<'a, W> {
+    /// The program of its connections, their variables and the banner.
+    pub plan: Plan,
+    /// Where programs are looked for.
+    pub search: SearchPath,
+    /// How the ends of connections get their names.
+    pub names: HostNames,
+    /// How many connections there may be at once, in all and from one address, and after how many the server ends.
+    pub limits: ConnectionLimits,
+    /// What the system gives it for its connections.
+    pub supply: Supply,
+    /// The process that is kept in reserve for their programs.
+    pub reserve: Reserve,
+    /// How the bytes of connections pass.
+    pub passing: Passing<'a>,
+    /// The log.
+    pub log: Mutex<Log<W>>,
+}
 
 /// A server that has come to its end: nobody is let in any more, and its threads have ended. By faults of accepting it
 /// ended only if a hundred came since the last connection, or if there were too few descriptors for one connection.
@@ -49,9 +73,9 @@ pub(crate) struct AtEnd<L: Places> {
 /// Serves connections in this yard, which has had no event and notes no installations, until it comes to an end, and
 /// waits until all that were let in are over. It answers how the tool ends by what that gave (`AtEnd`).
 ///
-/// `plan` is what each connection is served by. A connection is asked for nothing but the plan's program, once its
-/// client was greeted, with the variables of a decision to allow. Each connection opens `rules` for itself, and
-/// `missing` is what is decided where no file stands. Once no more connections are let in, the acceptor is dropped.
+/// Each connection is served by the plan of these parts: it is asked for nothing but the plan's program, once its
+/// client was greeted, with the variables of a decision to allow. It opens `rules` for itself, and `missing` is what is
+/// decided where no file stands. Once no more connections are let in, the acceptor is dropped.
 ///
 /// # Errors
 /// Those of `end_of`.
@@ -62,9 +86,7 @@ pub(crate) fn serve<'a, H, A>(
     yard: Yard<H::Places>,
     rules: &'a H::Rules,
     missing: WhenMissing,
-    plan: &'a Plan,
-    service: &'a Service,
-    log: &'a Mutex<Log<H::Lines>>,
+    parts: &'a ServerParts<'_, H::Lines>,
 ) -> Result<Finished, ServerFailure>
 where
     H: Host + Send + Sync,
@@ -79,27 +101,27 @@ where
     A: Acceptor<Came = Accepted<H::Connection>> + Send + Drop,
     requires new { (yard_books yard).count ≡ 0 }
     requires serves { H.Places.installs ≡ false }
-    requires count { H.Places.admissions ≡ service.now.limits.count }
+    requires count { H.Places.admissions ≡ parts.now.limits.count }
     requires missing { missing ≡ H.Places.missing }
     requires may { MayStartEach (IsFoundFor (H.Rules.gives rules.now) H.Handle.opened H.Places.missing)
-        H.File.honest H.File.sound plan.now H.Connection.contents H.Connection.may }
+        H.File.honest H.File.sound parts.now.plan H.Connection.contents H.Connection.may }
 {
     let live = yard.live();
-    let _ = log.lock(rt).status(live);
+    let _ = parts.log.lock(rt).status(live);
     let yard = Mutex::new(yard);
     let server = Server::<H> {
         context: Context {
             rt,
             alloc,
+            names: &parts.names,
             yard: &yard,
             rules,
             missing,
-            plan,
-            log,
+            plan: &parts.plan,
+            log: &parts.log,
         },
-        service,
     };
-    let (limits, supply) = (service.limits, service.supply);
+    let (limits, supply) = (parts.limits, parts.supply);
     let (end, let_in, faults) = Workers::<H::Runtime, Server<'_, H>, A>::serve_through(
         rt,
         alloc,
@@ -108,7 +130,7 @@ where
         limits.connections,
         limits.count,
         supply,
-        &service.reserve,
+        &parts.reserve,
     );
     drop(server);
     end_of(at_end(end, let_in, faults, supply, yard.into_inner()))

@@ -14,10 +14,9 @@ ghost use Rattle.tcp_streams.specs.Asked.{IsAskedPassing, passing_of};
 
 use crate::ends::Finished;
 use crate::rules::FolderRules;
-use crate::serving::serve;
+use crate::serving::{ServerParts, serve};
 use crate::system::{OnSystem, System, SystemOf};
 use byte_streams::Patient;
-use child_jobs::Plan;
 use fault_hints::{Voice, append_help};
 use server_events::Journal;
 use server_log::Log;
@@ -42,7 +41,6 @@ use std::time::Clock;
 use stream_tools::SearchPath;
 use stream_tools::started::{SystemGiven, texts_of};
 use tcp_connections::Reserve;
-use tcp_service::Service;
 use tcp_streams::{Passing, ProgramStarter, SocketAcceptor};
 
 /// Runs `tcpserver` with these words, over the system's sockets, files and programs; `errors` takes the lines of its
@@ -76,16 +74,6 @@ where
     let texts = texts_of(alloc, words)?;
     let lines = Patient::new(rt, errors);
     run_words::<SystemOf<'_, R, E>>(rt, (lines, errors), texts.as_slice(), voice, causes)
-}
-
-// What a server has but for its yard and its socket.
-#[derive(Drop)]
-struct ServerParts<'a, W> {
-    plan: Plan,
-    search: SearchPath,
-    service: Service,
-    passing: Passing<'a>,
-    log: Mutex<Log<W>>,
 }
 
 // Runs the tool with these words. Here and below, what a function owns it lends to the calls that follow: they have the
@@ -140,7 +128,7 @@ fn parts_of<'a, R: Env + AllocGlobal + Files, W: Write + Drop>(
     words: &'a ServerWords<'_>,
     voice: Voice,
 ) -> Result<ServerParts<'a, W>, ServerFailure>
-    ensures asked { IfOk result (λ server. AreAsked words.now server.plan server.service server.passing) }
+    ensures asked { IfOk result (AreAsked words.now) }
     ensures refused { IfErr result (λ failure. FailsNames words.now.hosts failure.fault) }
 {
     let alloc = rt.alloc();
@@ -152,12 +140,10 @@ fn parts_of<'a, R: Env + AllocGlobal + Files, W: Write + Drop>(
     Ok(ServerParts {
         plan,
         search,
-        service: Service {
-            limits,
-            names,
-            supply,
-            reserve: Reserve::new(),
-        },
+        names,
+        limits,
+        supply,
+        reserve: Reserve::new(),
         passing: Passing {
             mode,
             recording: wrapping.records(),
@@ -183,10 +169,10 @@ fn open_and_run<'a, P: System + Send + Sync>(
     server: &'a ServerParts<'_, P::Lines>,
     words: &'a ServerWords<'_>,
 ) -> Result<Finished, ServerFailure>
-    requires asked { AreAsked words.now server.now.plan server.now.service server.now.passing }
+    requires asked { AreAsked words.now server.now }
 {
     let rules = RulesPath::by_words(rt.alloc(), rt, words)?;
-    let (search, reserve) = (&server.search, &server.service.reserve);
+    let (search, reserve) = (&server.search, &server.reserve);
     let starter = ProgramStarter::new(rt, search, reserve, server.passing, errors);
     let acceptor = open_socket::<P>(rt, &server.log, words, &starter)?;
     let places = Blank::new(words.limits().connections);
@@ -253,9 +239,9 @@ fn run_in_yard<'a, L: Places + Send + Sync, P: System + Send + Sync>(
     requires places { (places.name ≡ L.name) × (places.parts ≡ L.parts)
         × (places.parts ≡ words.now.limits.connections) }
     requires serves { L.installs ≡ false }
-    requires count { L.admissions ≡ server.now.service.limits.count }
+    requires count { L.admissions ≡ server.now.limits.count }
     requires missing { L.missing ≡ rules_missing rules.now }
-    requires asked { AreAsked words.now server.now.plan server.now.service server.now.passing }
+    requires asked { AreAsked words.now server.now }
     requires rules { AreRulesOf words.now rules.now }
     requires accepts { AcceptsAsAsked P.listens words.now acceptor }
 {
@@ -265,15 +251,7 @@ fn run_in_yard<'a, L: Places + Send + Sync, P: System + Send + Sync>(
     let missing = rules.missing();
     let rules = FolderRules(rules);
     serve::<OnSystem<'a, P, L>, AcceptorOn<'a, P>>(
-        rt,
-        alloc,
-        acceptor,
-        yard,
-        &rules,
-        missing,
-        &server.plan,
-        &server.service,
-        &server.log,
+        rt, alloc, acceptor, yard, &rules, missing, server,
     )
 }
 

@@ -13,7 +13,7 @@ pub returns-in-Ended : goal.returns-in-Ended
 returns-in-Ended c = λ none. rw c.in-Ended.is (c.add_exit.ensures [] none)
 
 pub returns-in-Retired : goal.returns-in-Retired
-returns-in-Retired c = λ none. rw c.in-Retired.is (c.add-in-Retired.ensures [] none)
+returns-in-Retired c = λ none. rw c.in-Retired.is (holds_as [] _ _ (rw c.retired_line.ensures refl) (c.add-in-Retired.ensures [] none))
 
 pub returns-in-Dropped : goal.returns-in-Dropped
 returns-in-Dropped c = λ none.

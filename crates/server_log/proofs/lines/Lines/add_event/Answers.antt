@@ -6,16 +6,19 @@ use Rattle.rule_lookup.specs.declared.instr.Verdict.{Verdict}
 use Rattle.rule_lookup.specs.declared.peer.Peer.{Peer}
 use Rattle.server_words.specs.declared.level.Level.{Level}
 use Rattle.server_log.specs.declared.cause.Cause.{Cause}
-use Rattle.server_log.specs.Lines.{end_lines, event_lines, status_lines}
-use Rattle.server_log.specs.declared.told.Told.{Told}
+use Rattle.server_log.specs.Lines.{end_lines, event_lines, progress, status_lines, verdict_text}
+use Rattle.server_log.specs.declared.lines.Told.{Told}
 use Rattle.server_log.proofs.LogLemmas.{holds_as}
 use Rattle.server_log.proofs.lines.Lines.add_event.Goals as goal
 
 pub returns-in-Admitted : goal.returns-in-Admitted
-returns-in-Admitted c = λ none. rw c.in-Admitted.is (c.add.ensures _ (c.add_status.ensures [] none))
+returns-in-Admitted c = λ none.
+    rw c.in-Admitted.is (holds_as (status_lines c.args.to.level c.args.to.limit c.args.live) _ _ (rw c.pid_line.ensures refl) (c.add.ensures _ (c.add_status.ensures [] none)))
 
 pub returns-in-Decided : goal.returns-in-Decided
-returns-in-Decided c = λ none. rw c.in-Decided.is (c.add_cause.ensures _ (c.add_verdict.ensures [] none))
+returns-in-Decided c = λ none.
+    let verdict = progress c.args.to.level (verdict_text c.in-Decided.verdict c.in-Decided.serial c.in-Decided.local.now c.in-Decided.peer.now) in
+    rw c.in-Decided.is (c.add_cause.ensures _ (holds_as [] _ verdict (rw c.verdict_line-line.ensures refl) (c.add-in-Decided.ensures [] none)))
 
 pub returns-in-Started : goal.returns-in-Started
 returns-in-Started c = λ none. rw c.in-Started.is (c.add_runs.ensures [] none)

@@ -7,10 +7,10 @@ use Rattle.server_log.proofs.lines.Lines.add_exit.Goals as goal
 pub returns-in-Some : goal.returns-in-Some
 returns-in-Some c = λ lines holds.
     let end = progress c.args.to.level (end_text c.args.serial c.args.status) in
-    holds_as (lines ++ end) _ _ (rw (c.in-Some.is, c.from.ensures) refl)
-    (c.add-in-Some.ensures _ (holds_as lines _ end (rw c.status_piece-status.ensures refl) (c.add.ensures lines holds)))
+    holds_as (lines ++ end) _ _ (rw (c.in-Some.is, c.signal_line.ensures) refl)
+    (c.add-in-Some.ensures _ (holds_as lines _ end (rw c.end_line.ensures refl) (c.add.ensures lines holds)))
 
 pub returns-in_default : goal.returns-in_default
 returns-in_default c = λ lines holds.
     let end = progress c.args.to.level (end_text c.args.serial c.args.status) in
-    rw (c.in_default.is, append-nil) (holds_as lines _ end (rw c.status_piece-status.ensures refl) (c.add.ensures lines holds))
+    rw (c.in_default.is, append-nil) (holds_as lines _ end (rw c.end_line.ensures refl) (c.add.ensures lines holds))

@@ -3,4 +3,4 @@ use Rattle.server_log.proofs.LogLemmas.{holds_as}
 use Rattle.server_log.proofs.lines.Lines.add_runs.Goals as goal
 
 pub returns-in-Some : goal.returns-in-Some
-returns-in-Some c = λ lines holds. holds_as lines _ _ (rw (c.in-Some.is, c.from.ensures) refl) (c.add.ensures lines holds)
+returns-in-Some c = λ lines holds. holds_as lines _ _ (rw (c.in-Some.is, c.runs_line.ensures) refl) (c.add.ensures lines holds)

@@ -1,6 +1,5 @@
 use Rattle.std.proofs.Common.{◌≡◌, ◌++◌, codes, List, ℕ, refl, append_assoc}
-use Rattle.server_log.proofs.LogLemmas.{holds_as}
-use Rattle.server_log.proofs.lines.Lines.add_verdict.Goals as goal
+use Rattle.server_log.proofs.lines.verdict_line.Goals as goal
 
 -- the fields of the two ends, in a row
 in_a_row : (front host ip port host' ip' info port' : List ℕ)
@@ -9,7 +8,4 @@ in_a_row : (front host ip port host' ip' info port' : List ℕ)
 in_a_row front host ip port host' ip' info port' = simp append_assoc
 
 pub returns : goal.returns
-returns c = λ lines holds.
-    holds_as lines _ _
-    (rw (in_a_row, c.verdict_word.ensures, c.host.ensures, c.ip.ensures, c.from.ensures, c.port.ensures, c.host-2.ensures.value, c.ip-2.ensures, c.info.ensures.value, c.from-2.ensures, c.port-2.ensures) refl)
-    (c.add.ensures lines holds)
+returns c = rw (in_a_row, c.verdict_word.ensures, c.host.ensures, c.ip.ensures, c.from.ensures, c.port.ensures, c.host-2.ensures.value, c.ip-2.ensures, c.info.ensures.value, c.from-2.ensures, c.port-2.ensures) refl
