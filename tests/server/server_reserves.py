@@ -101,6 +101,13 @@ def memory(suite):
         all_served(suite, "softlimit -a %d" % space, [("as", space)], 40, 40, 0.1)
 
 
+@needs_proved(56)
+def data(suite):
+    """Limits of data alone. What a look for memory asked for must not stay with one thread: programs would lack it for good."""
+    for limit in range(3_300_000, 4_900_000, 200_000):
+        all_served(suite, "ulimit -d, %d bytes" % limit, [("data", limit)], 40, 40, 0.05, env={"PATH": os.environ["PATH"]})
+
+
 def documented(handed):
     """The lowest limits of docs/COOKBOOK.md, in bytes: of memory in all and of data, for one client and for forty at once."""
     with open(os.path.join(TOP, "docs", "COOKBOOK.md"), encoding="utf-8") as file:
@@ -284,6 +291,6 @@ def no_trace(suite):
             suite.expect("a client after one that was reset", server.ask(b"y\n"), b"y\r\n")
 
 
-CHECKS = [descriptors, memory, lowest_limits, processes, nobody, refused_threads, kept_threads, no_trace]
-HANDED = [descriptors, memory, lowest_limits, common_limit, processes, nobody, refused_threads, kept_threads]
+CHECKS = [descriptors, memory, data, lowest_limits, processes, nobody, refused_threads, kept_threads, no_trace]
+HANDED = [descriptors, memory, data, lowest_limits, common_limit, processes, nobody, refused_threads, kept_threads]
 COMMON = []

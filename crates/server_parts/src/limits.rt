@@ -107,6 +107,8 @@ pub fn supply_for(mode: Mode, connections: u64, variables: usize) -> Supply
     let limits = MemoryLimits::own();
     let is_limited = limits.data != UNLIMITED || limits.addresses != UNLIMITED;
     let memory = Memory {
+        data: limits.data,
+        addresses: limits.addresses,
         is_low: is_low(limits, start),
         to_begin: start,
         to_go_on: buffers.saturating_add(GOING_ON),

@@ -3,14 +3,13 @@ ghost use Rattle.std.specs.Prelude.{◌≡◌};
 ghost use Rattle.tcp_connections.specs.Admissions.{suffices};
 
 use std::alloc::Global;
-use std::sync::atomic::{AtomicUsize, Ordering};
 use std::sync::{Condvar, Mutex, Wait};
-
-/// By how many bytes a look for memory asks for more than the last one: two pages.
-const MORE: usize = 8 * 1024;
 
 /// What a thread takes of address space, in bytes: its stack, and what guards it.
 const THREAD: usize = 192 * 1024;
+
+/// What the C library has reserved for a thread already, in bytes. A connection takes that first.
+const RESERVED: usize = 128 * 1024;
 
 /// So many connections may be at once whose child does not run yet, if memory is limited and not low.
 const AT_ONCE: usize = 4;
@@ -29,9 +28,13 @@ pub struct Supply {
     pub memory: Option<Memory>,
 }
 
-/// What connections take of limited memory, in bytes.
+/// What connections take of limited memory, and its limits, in bytes. A limit that there is not is the greatest number.
 #[derive(Clone, Copy)]
 pub struct Memory {
+    /// How much may be written to.
+    pub data: u64,
+    /// How much may be reserved.
+    pub addresses: u64,
     /// Whether it is low: then one connection at a time begins, and threads are saved.
     pub is_low: bool,
     /// What one connection takes until its child runs, at most.
@@ -74,18 +77,12 @@ impl Supply {
 pub(crate) struct MemoryLook {
     alloc: Global,
     supply: Supply,
-    // how many bytes the last look found, if it succeeded
-    found: AtomicUsize,
 }
 
 impl MemoryLook {
     /// No look was made yet.
     pub fn new(alloc: Global, supply: Supply) -> MemoryLook {
-        MemoryLook {
-            alloc,
-            supply,
-            found: AtomicUsize::new(0),
-        }
+        MemoryLook { alloc, supply }
     }
 
     /// Whether memory is limited.
@@ -106,23 +103,22 @@ impl MemoryLook {
     }
 
     // Whether there is memory for the connections of this many workers and for this many bytes more, if it is limited.
-    // Each look asks for more than the last one that succeeded. The C library would serve a smaller request from what
-    // it keeps for this thread alone.
+    // What the system tells is compared with the limits. To ask the C library for so much might take it for good: it
+    // keeps what one thread got, and a program would lack it. If the system tells nothing, it is asked all the same.
     fn has(&self, workers: usize, beside: usize) -> bool {
         let Some(memory) = self.supply.memory else {
             return true;
         };
-        let more = self.found.load(Ordering::SeqCst).saturating_add(MORE);
         let all = memory
             .to_go_on
             .saturating_mul(workers)
             .saturating_add(memory.to_begin.saturating_mul(memory.at_once()))
             .saturating_add(beside)
-            .max(more);
-        let is_there = Vec::<u8>::with_capacity(self.alloc, all).is_ok();
-        let found = if is_there { all } else { 0 };
-        self.found.store(found, Ordering::SeqCst);
-        is_there
+            .saturating_sub(RESERVED);
+        match Taken::now() {
+            Some(taken) => taken.leaves(all as u64, memory),
+            None => Vec::<u8>::with_capacity(self.alloc, all).is_ok(),
+        }
     }
 
     /// A new thread begins. If memory is limited it asks for some, so that the C library reserves now what it reserves
@@ -132,6 +128,52 @@ impl MemoryLook {
             drop(Vec::<u8>::with_capacity(self.alloc, 64));
         }
     }
+}
+
+/// Where the system tells what memory a process takes (proc(5)).
+const STATUS: &[u8] = b"/proc/self/status";
+
+// What this process takes of limited memory, in bytes.
+#[derive(Clone, Copy)]
+struct Taken {
+    data: u64,
+    addresses: u64,
+}
+
+impl Taken {
+    // What it takes now, if the system tells it.
+    fn now() -> Option<Taken> {
+        let mut status = [0u8; 4096];
+        let file = os::open_read(STATUS);
+        let size = libc::read(file, &mut status);
+        let _ = libc::close(file);
+        let status = status.get(..usize::try_from(size).ok()?)?;
+        Some(Taken {
+            data: bytes_in(status, b"VmData:")?,
+            addresses: bytes_in(status, b"VmSize:")?,
+        })
+    }
+
+    // Whether so many bytes more may be taken under these limits.
+    fn leaves(self, all: u64, memory: Memory) -> bool {
+        self.data.saturating_add(all) <= memory.data
+            && self.addresses.saturating_add(all) <= memory.addresses
+    }
+}
+
+// The number of the line of this name, which counts KiB, in bytes.
+fn bytes_in(status: &[u8], name: &[u8]) -> Option<u64> {
+    for line in status.split(|&byte| byte == b'\n') {
+        if line.starts_with(name) {
+            let mut number = 0u64;
+            for digit in line.iter().filter(|byte| byte.is_ascii_digit()) {
+                let digit = u64::from(digit.saturating_sub(b'0'));
+                number = number.saturating_mul(10).saturating_add(digit);
+            }
+            return Some(number.saturating_mul(1024));
+        }
+    }
+    None
 }
 
 /// A process that is kept in reserve, as a thread that waits: the system counts threads and processes together. If a
