@@ -219,7 +219,7 @@ def check_changes(checks):
     part = read("docs/internals/ARCHITECTURE.md").partition("\n## What a change touches\n")[2].partition("\n## ")[0]
     paths = re.findall(r"`(\w+(?:/[\w.]+)+)`", part)
     lost = [path for path in paths if not any(os.path.isfile(os.path.join(TOP, top, path)) for top in ("", "crates"))]
-    checks.holds("docs/internals/ARCHITECTURE.md: files that a change touches", len(paths) > 30 and not lost, lost)
+    checks.holds("docs/internals/ARCHITECTURE.md: files that a change touches", len(paths) > 25 and not lost, lost)
 
 
 def check_lengths(checks, folder, pages, most):

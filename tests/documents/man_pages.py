@@ -10,7 +10,7 @@ import subprocess
 import tempfile
 
 from documents.documents import TERMS
-from shared import plain_words
+from shared import log_forms, plain_words
 from shared.checks import TOP, Checks
 
 # the crate's fault of each tool, and the variant of `ToolFault` that it is
@@ -25,6 +25,8 @@ FAULTS = {
 }
 # the fault of `tcprules -n`, which prints under the same name
 REVIEW = ("rules_tools/src/review.rt", "ReviewFault", "Review")
+# how the lines of the log begin that the tests have no form of
+BESIDE_EVENTS = tuple("tcpserver: " + words for words in ("cause:", "listening on", "rules by name", "runs"))
 # the words that stand alone
 ALONE = {"tcprules": "nN"}
 # the tools that tell causes
@@ -393,6 +395,8 @@ def check_log_lines(checks):
         forms = set(re.findall(r"^\| `(tcpserver: [^`]*)`", file.read(), re.M))
     forms.add(next(form for form in forms if ": ok N" in form).replace(": ok N", ": deny N"))
     checks.same("tcpserver: forms of the log, as docs/LOG_LINES.md has them", set(page.log_lines()), forms)
+    of_events = {form for form in forms if not form.startswith(BESIDE_EVENTS)}
+    checks.same("tcpserver: forms of the log, as the tests have them", log_forms.documented(), of_events)
     causes = re.findall(r'"([^"]*)"', body_of(source, "cause_words"))
     checks.same("tcpserver: causes", page.below("tcpserver: drop N CAUSE"), causes)
     faults = re.findall(r'"([^"]*)"', body_of(source, "fault_words"))

@@ -9,7 +9,7 @@ import socket
 import subprocess
 import tempfile
 
-from shared import compiled_files, plain_words
+from shared import compiled_files, log_forms, plain_words
 from shared.checks import LIMIT, TOP, Checks
 from shared.fewer_rights import as_nobody, at_most_1000_bytes
 from shared.server_runs import read_all
@@ -236,10 +236,10 @@ def processes(tools):
             program = ["sh", "-c", "echo $$; " + how]
             served = Served(tools, True, ["-v", "-H", mode], program)
             runs = ["runs 1 process %s" % served.got.decode().strip()]
-            shown = LISTENS + START + ["ok " + ENDS] + runs + ["end 1 status " + status] + signals + ["status: 0/40"]
+            shown = LISTENS + START + ["ok " + ENDS] + runs + [log_forms.end(1, status)] + signals + ["status: 0/40"]
             tools.expect("%s %r" % (mode, how), served.log, served.lines(*shown))
             served = Served(tools, False, ["-v", "-H", mode], program)
-            tools.expect("%s %r, of ucspi" % (mode, how), served.log, served.lines(*START, "ok " + ENDS, "end 1 status " + status, "status: 0/40"))
+            tools.expect("%s %r, of ucspi" % (mode, how), served.log, served.lines(*START, "ok " + ENDS, log_forms.end(1, status), "status: 0/40"))
             for level in ([], ["-Q"], ["-q"]):
                 tools.expect("%s %r, under %r" % (mode, how, level), Served(tools, True, level + [mode], program).log, "")
     served = Served(tools, True, ["-v", "-H"], ["/nonexistent/prog"])

@@ -283,7 +283,7 @@ ONE_WAIT, THREE_WAITS = ["waitpid"], ["waitpid", "kill", "waitpid", "kill", "wai
 def rounds_of_waits(suite):
     """A program is waited for up to three times, and killed before the second and the third. The log has what the last wait answered. If none of them
     did, the program keeps its place for good, and a server without free places ends. The system's word that there is no such program is the last."""
-    library, signalled, ended, retired = failed_calls.Library(suite.folder), ["end 1 status signal"], ["end 1 status 7"], ["retired 1"]
+    library, signalled, ended, retired = failed_calls.Library(suite.folder), [log_forms.end(1, "signal")], [log_forms.end(1, 7)], ["retired 1"]
     cases = [
         ("no wait fails", 0, False, WAITS_FOR_A_LINE, ended, ONE_WAIT), ("the first wait fails", 1, False, RUNS_ON, signalled, THREE_WAITS[:3]),
         ("two waits fail", 2, False, RUNS_ON, signalled, THREE_WAITS), ("two waits and all kills fail", 2, True, WAITS_FOR_A_LINE, ended, THREE_WAITS),
@@ -316,12 +316,12 @@ def waited_for(suite, name, run, program, wanted, calls):
 def one_of_two(suite, run):
     """A place of two that is given up: the other one serves on, and the server ends at its count."""
     with suite.start(["-v", "-c", "2", "-k", "4"], ["sh", "-c", "read a; exit 7"], env=dict(os.environ, **run.environment)) as server:
-        for line in ("retired 1", "end 2 status 7", "end 3 status 7", "end 4 status 7"):
+        for line in ("retired 1", log_forms.end(2, 7), log_forms.end(3, 7), log_forms.end(4, 7)):
             server.ask(b"a line\n")
             server.wait_line(line)
         told = [line for line in server.lines() if not line.startswith(("pid ", "ok "))]
         wanted = ["status: 0/2", "status: 1/2", "retired 1", "status: 1/2"]
-        wanted += [line for serial in (2, 3, 4) for line in ("status: 2/2", "end %d status 7" % serial, "status: 1/2")]
+        wanted += [line for serial in (2, 3, 4) for line in ("status: 2/2", log_forms.end(serial, 7), "status: 1/2")]
         suite.expect("one of two places given up", (server.end(), told), (0, wanted))
         suite.expect("one of two places given up: its waits and kills", run.noted(), THREE_WAITS + 3 * ONE_WAIT)
         suite.audit("one of two places given up", server)

@@ -97,18 +97,24 @@ class Enders(Pool):
             return
         life = "pid from %s" % source, "ok :127.0.0.1:%d :%s::%d" % (self.server.port, source, port)
         if answer:
-            life += "runs process %d" % int(answer), "end status " + end
+            life += "runs process %d" % int(answer), apart(log_forms.end(0, end))[1]
         with self.lock:
             self.lives.append(life)
+
+
+def apart(line):
+    """The serial number in a line, and the line without it."""
+    word, serial, *rest = line.split(" ")
+    return serial, " ".join([word] + rest)
 
 
 def lives_in(lines):
     """The lines of each connection in their order, by its serial number, without that number."""
     lives = {}
     for line in lines:
-        word, serial, *rest = line.split(" ")
-        if word in ("pid", "ok", "runs", "end", "retired", "start"):
-            lives[int(serial)] = lives.get(int(serial), ()) + (" ".join([word] + rest),)
+        if line.startswith(("pid ", "ok ", "runs ", "end ", "retired ", "start ")):
+            serial, rest = apart(line)
+            lives[int(serial)] = lives.get(int(serial), ()) + (rest,)
     return lives
 
 

@@ -49,7 +49,7 @@ def ends(suite):
         (["sh", "-c", "echo hi; kill -15 $$"], "signal"), (["sh", "-c", "kill -SEGV $$"], "signal"),
         (["sh", "-c", "kill -ABRT $$"], "signal"), (["sh", "-c", "exec <&- >&-; sleep 0.2; exit 3"], "3"), (["sh", "-c", "exit 137"], "137"),
     ):
-        single(suite, "the end of %r" % program, [], program, OK + ["end 1 status " + status] + FREE)
+        single(suite, "the end of %r" % program, [], program, OK + [log_forms.end(1, status)] + FREE)
     single(suite, "the end of one from another address", [], ["true"], OK + ENDED + FREE, "127.200.1.255")
 
 
@@ -190,48 +190,48 @@ def levels(suite):
 
 # All lines of a server that meets one fault after another, and in front of each where it is told: under -v; under -Q too; or at every level. A cause is
 # told under -Q if the server is called as `tcpserver`, and a hint under no level otherwise; what is for a person is told under -v, and only by one that
-# is called so. The bytes are spelled here, but for ports and the numbers of processes.
-EACH_LINE = """
-person listening on 127.0.0.1:{port}
+# is called so. The bytes are spelled here, but for ports, the numbers of processes, and ends.
+EACH_LINE = f"""
+person listening on 127.0.0.1:{{port}}
 -v     status: 0/2
 -v     status: 1/2
 -v     pid 1 from 127.0.0.1
--v     deny 1 mail.example:127.0.0.1:{port} :127.0.0.1::{peers[1]}
+-v     deny 1 mail.example:127.0.0.1:{{port}} :127.0.0.1::{{peers[1]}}
 hint   cause: lines.cdb: No such file or directory
 -v     status: 0/2
 -v     status: 1/2
 -v     pid 2 from 127.0.0.2
--v     ok 2 mail.example:127.0.0.1:{port} relay.example:127.0.0.2::{peers[2]}
-person runs 2 process {processes[2]}
--v     end 2 status 0
+-v     ok 2 mail.example:127.0.0.1:{{port}} relay.example:127.0.0.2::{{peers[2]}}
+person runs 2 process {{processes[2]}}
+-v     {log_forms.end(2, 0)}
 -v     status: 0/2
 -v     status: 1/2
 -v     pid 3 from 127.0.0.3
--v     ok 3 mail.example:127.0.0.1:{port} :127.0.0.3::{peers[3]}
-person runs 3 process {processes[3]}
--v     end 3 status signal
+-v     ok 3 mail.example:127.0.0.1:{{port}} :127.0.0.3::{{peers[3]}}
+person runs 3 process {{processes[3]}}
+-v     {log_forms.end(3, "signal")}
 person cause: 3: signal 9
 -v     status: 0/2
 -v     status: 1/2
 -v     pid 4 from 127.0.0.4
--v     ok 4 mail.example:127.0.0.1:{port} :127.0.0.4::{peers[4]}
-person runs 4 process {processes[4]}
+-v     ok 4 mail.example:127.0.0.1:{{port}} :127.0.0.4::{{peers[4]}}
+person runs 4 process {{processes[4]}}
 -Q     drop 127.0.0.4 address full
--v     end 4 status 255
+-v     {log_forms.end(4, 255)}
 -v     status: 0/2
 -v     status: 1/2
 -v     pid 5 from 127.0.0.5
--v     deny 5 mail.example:127.0.0.1:{port} :127.0.0.5::{peers[5]}
+-v     deny 5 mail.example:127.0.0.1:{{port}} :127.0.0.5::{{peers[5]}}
 -v     status: 0/2
 -v     status: 1/2
 -v     pid 6 from 127.0.0.6
--v     ok 6 mail.example:127.0.0.1:{port} :127.0.0.6::{peers[6]}
+-v     ok 6 mail.example:127.0.0.1:{{port}} :127.0.0.6::{{peers[6]}}
 -Q     start 6 refused
 cause  cause: ./lines-program: Permission denied
 -v     status: 0/2
 -v     status: 1/2
 -v     pid 7 from 127.0.0.7
--v     ok 7 mail.example:127.0.0.1:{port} :127.0.0.7::{peers[7]}
+-v     ok 7 mail.example:127.0.0.1:{{port}} :127.0.0.7::{{peers[7]}}
 -Q     start 7 not found
 cause  cause: ./lines-program: No such file or directory
 -v     status: 0/2
@@ -253,28 +253,28 @@ cause  cause: lines.cdb: Is a directory
 -v     status: 0/2
 -v     status: 1/2
 -v     pid 11 from 127.0.0.11
--v     ok 11 mail.example:127.0.0.1:{port} :127.0.0.11::{peers[11]}
-person runs 11 process {processes[11]}
+-v     ok 11 mail.example:127.0.0.1:{{port}} :127.0.0.11::{{peers[11]}}
+person runs 11 process {{processes[11]}}
 -Q     retired 11
 -v     status: 1/2
 -v     status: 2/2
 -v     pid 12 from 127.0.0.12
--v     ok 12 mail.example:127.0.0.1:{port} :127.0.0.12::{peers[12]}
-person runs 12 process {processes[12]}
+-v     ok 12 mail.example:127.0.0.1:{{port}} :127.0.0.12::{{peers[12]}}
+person runs 12 process {{processes[12]}}
 -Q     retired 12
 -v     status: 2/2
 -q     no places left
 """
 # the same of a server whose rules have names that no client has
-NAMED_RULES = """
-person listening on 127.0.0.1:{port}
+NAMED_RULES = f"""
+person listening on 127.0.0.1:{{port}}
 -v     rules by name, and no names
 -v     status: 0/2
 -v     status: 1/2
 -v     pid 1 from 127.0.0.1
--v     ok 1 mail.example:127.0.0.1:{port} :127.0.0.1::{peers[1]}
-person runs 1 process {processes[1]}
--v     end 1 status 7
+-v     ok 1 mail.example:127.0.0.1:{{port}} :127.0.0.1::{{peers[1]}}
+person runs 1 process {{processes[1]}}
+-v     {log_forms.end(1, 7)}
 -v     status: 0/2
 """
 # where each kind of line is told, by one that is called as `ucspi tcpserver` and by one that is called as `tcpserver`
@@ -336,7 +336,7 @@ def each_line(suite):
             many_faults(suite, named, level, program, rules)
             suite.install("=a.example:deny\n:allow\n", "lines.cdb")
             server = Voiced(suite, named, level, ["-k", "1"])
-            server.ask(b"exit 7\n", "-v", "end 1 status 7")
+            server.ask(b"exit 7\n", "-v", log_forms.end(1, 7))
             server.ended("rules by name", NAMED_RULES, 0)
             os.unlink(rules)
 
@@ -348,15 +348,15 @@ def many_faults(suite, named, level, program, rules):
     server = Voiced(suite, named, level, ["-m", "1", "-N", table], env=dict(os.environ, **run.environment))
     server.ask(b"", "hint", "cause: lines.cdb: No such file or directory")
     suite.install("127.0.0.5:deny\n:allow\n", "lines.cdb")
-    server.ask(b"exit 0\n", "-v", "end 2 status 0")
-    server.ask(b"kill -9 $$\n", "-v", "end 3 status signal")
+    server.ask(b"exit 0\n", "-v", log_forms.end(2, 0))
+    server.ask(b"kill -9 $$\n", "-v", log_forms.end(3, "signal"))
     with server.client() as client:
         server.processes.append(client.recv(100).decode().strip())
         server.wait_for("person", "runs 4 process " + server.processes[4])
         suite.expect("a second client", server.server.ask(source="127.0.0.4"), b"")
         client.sendall(b"exit 255\n")
         read_all(client)
-    server.wait_for("-v", "end 4 status 255")
+    server.wait_for("-v", log_forms.end(4, 255))
     server.ask(b"", "-v", "deny 5 ")
     os.chmod(program, 0o644)
     server.ask(b"", "-Q", "start 6 refused")
@@ -665,7 +665,7 @@ def plain_log(suite):
         server.idle()
         number = r"\d+"
         forms = ["status: 0/2", "status: 1/2", "pid %s from 127.0.0.1" % number]
-        forms += [r"ok %s a\?b:127.0.0.1:%d :127.0.0.1::%d" % (number, server.port, peer), "end %s status 0" % number, "status: 0/2"]
+        forms += [r"ok %s a\?b:127.0.0.1:%d :127.0.0.1::%d" % (number, server.port, peer), log_forms.end(number), "status: 0/2"]
         matched = [re.fullmatch(form, line) is not None for form, line in zip(forms, server.lines())]
         suite.expect("a plain log", (got, matched, len(server.lines())), (b"hi\n", [True] * 6, 6))
 

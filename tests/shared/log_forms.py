@@ -1,7 +1,7 @@
 """The forms of the lines of a server's log, without their name in front: each line as a text, of which any part may be a pattern. They are written from
 docs/LOG_LINES.md, with nothing of the program or of the log reader in them.
 
-A new field of a line is added here. Its bytes are spelled once more, independently of this, in the group `server_log`.
+A new field of a line is added here. All groups have ends of programs from here alone, and `man_pages` compares these forms with the document's.
 """
 import re
 
@@ -56,6 +56,13 @@ def full(address):
 def start(serial, fault):
     """A program that is not started."""
     return "start %s %s" % (serial, fault)
+
+
+def documented():
+    """These forms as the document has them, with its words for their parts."""
+    ends = "LH:LIP:LPORT", "RH:RIP:INFO:RPORT"
+    forms = [status("L", "C"), pid("N", "IP"), verdict("ok", "N", *ends), verdict("deny", "N", *ends), end("N", "S"), retired("N")]
+    return {"tcpserver: " + form for form in forms + [drop("N", "CAUSE"), full("IP"), start("N", "FAULT")]}
 
 
 def log(*lines):

@@ -3,3 +3,4 @@ pub mod Causes
 pub mod Lines
 pub mod Logs
 pub mod Pieces
+pub mod Reports

@@ -1,10 +1,12 @@
 //! The log of a server: which lines an event has, and when they are written.
-ghost use Rattle.std.specs.Prelude.{◌≡◌, ◌≢◌, ◌↔◌, Err, IfErr, IsTrue, List, ℕ};
+ghost use Rattle.std.specs.Prelude.{◌≡◌, ◌≢◌, ◌↔◌, Err, IfErr, IfOk, IsTrue, List, OnErr, OnOk, is_ok, length, ℕ};
 ghost use Rattle.std.specs.Io.{WritesAtMost};
 ghost use Rattle.std.specs.Io.KnownBytes.{Keeps, WriteAppends};
 ghost use Rattle.server_log.specs.Lines.{event_lines, full_lines, listening_text, memory_lines, no_names_lines, person, status_lines};
 ghost use Rattle.server_log.specs.Logs.{Holds, IsLater, KeepsSettings, Logged, Takes, TellsInOrder, held, last_of, level_of, limit_of, voice_of, writer_of};
 ghost use Rattle.server_log.specs.Pieces.{line_of, told_lines};
+ghost use Rattle.server_yard.specs.Evidence.{asked_event, made_at};
+ghost use Rattle.server_yard.specs.Yards.{yard_server};
 
 use crate::fault::LogFault;
 use crate::lines::{Lines, Settings, Shown, Told, status_line};
@@ -13,6 +15,7 @@ use crate::pieces::Piece::{Address, Number, Text};
 use byte_streams::write_out;
 use fault_hints::Voice;
 use server_words::Level;
+use server_yard::{Made, OutOfTurn, Places, Yard};
 use std::alloc::Global;
 use std::io;
 use std::io::Write;
@@ -32,7 +35,29 @@ pub struct Log<W> {
     lines: Lines,
 }
 
+/// What a yard answered of an event that it was asked for. If it made the event, a log was told of it, as it was. Only
+/// `Log::report` makes one.
+#[derive(Drop)]
+pub struct Reported {
+    answer: Result<Made, OutOfTurn>,
+    // what became of its lines: a server goes on either way
+    lines: Result<(), LogFault>,
+}
+
+impl Reported {
+    ghost use Rattle.server_log.specs.Reports.{reported_answer};
+
+    /// Whether the event was made.
+    pub fn was_made(&self) -> bool
+        ensures { result ≡ is_ok (reported_answer self.now) }
+    {
+        self.answer.is_ok()
+    }
+}
+
 impl<W: Write> Log<W> {
+    ghost use Rattle.server_log.specs.Reports.{Tells, reported_answer, reported_lines};
+
     /// A log of this level that speaks with this voice, for a server with this limit of connections. It takes no
     /// memory, and nothing is written.
     pub fn new(alloc: Global, writer: W, level: Level, voice: Voice, limit: u64) -> Log<W>
@@ -69,12 +94,37 @@ impl<W: Write> Log<W> {
         self.tell_line(Shown::Progress, &line)
     }
 
-    /// Tells an event at its position in the history, after which `live` connections are alive.
-    ///
-    /// # Errors
-    /// `OutOfOrder` if one at this position or a later one was told before; nothing is written. Otherwise those of
-    /// `status`.
-    pub fn tell(&mut self, at: u64, live: u64, told: Told<'_>) -> Result<(), LogFault>
+    /// Tells what this yard has just answered of an event, if it made it. As many connections are alive after the event
+    /// as are in the yard. The lines of the event are written, unless one at its position or a later one was told
+    /// before. An event that was not made has no lines.
+    pub fn report<L: Places>(
+        &mut self,
+        yard: &Yard<L>,
+        answer: Result<Made, OutOfTurn>,
+        told: Told<'_>,
+    ) -> Reported
+        requires its { Tells told (asked_event answer) }
+        ensures answer { reported_answer result ≡ answer }
+        ensures order { IfOk answer (λ made.
+            TellsInOrder (last_of self.old) (made_at made) (last_of self.new) (reported_lines result)) }
+        ensures lines { OnOk answer (reported_lines result ≢ Err LogFault.OutOfOrder
+            → Logged (event_lines (level_of self.old) (voice_of self.old) (limit_of self.old)
+            (length (yard_server yard.now).connections) told.entry)
+            (held W.contents self.old) (held W.contents self.new) (reported_lines result)) }
+        ensures untouched { reported_lines result ≡ Err LogFault.OutOfOrder → self.new ≡ self.old }
+        ensures none { OnErr answer (self.new ≡ self.old) }
+        ensures same { KeepsSettings self.old self.new }
+    {
+        let lines = match &answer {
+            Ok(made) => self.tell(made.at(), yard.live(), told),
+            Err(_) => Ok(()),
+        };
+        Reported { answer, lines }
+    }
+
+    // Tells an event at its position in the history, after which `live` connections are alive. It is refused if one at
+    // this position or a later one was told before; nothing is written then.
+    fn tell(&mut self, at: u64, live: u64, told: Told<'_>) -> Result<(), LogFault>
         ensures order { TellsInOrder (last_of self.old) at (last_of self.new) result }
         ensures lines { result ≢ Err LogFault.OutOfOrder
             → Logged (event_lines (level_of self.old) (voice_of self.old) (limit_of self.old) live told.entry)

@@ -13,7 +13,7 @@ ghost use Rattle.server_yard.specs.Passes.{IsDecidedBy, pass_file, pass_serial};
 ghost use Rattle.server_yard.specs.Rolls.{CountsStored, HasHistory, HasNoEvents, IsQuiet, Lived, Notes, Roll};
 ghost use Rattle.server_yard.specs.Rooms.{KeepsRoom, events_left, room_needed, spare_events};
 ghost use Rattle.server_yard.specs.Runs.{HasRunTo, IsRun};
-ghost use Rattle.server_yard.specs.Seating.{GivesSeat, HasSeats, IsAddressFull, IsSpent, KeepsSeats, KeepsSerials, LosesOne, goes_on, leaver};
+ghost use Rattle.server_yard.specs.Seating.{GivesSeat, HasSeats, KeepsSeats, KeepsSerials, LosesOne, goes_on, leaver};
 ghost use Rattle.server_yard.specs.declared.yard.AdmitFault.TheVariants.{Full, FullForAddress, OutOfMemory, Spent};
 
 use crate::evidence::{Made, NoNumbers, OutOfTurn};

@@ -1,5 +1,6 @@
 //! What starts programs of the system, as jobs.
-ghost use Rattle.std.specs.Prelude.{◌≡◌, ⊤, IfOk, true};
+ghost use Rattle.std.specs.Prelude.{◌≡◌, ⊤, IfErr, IfOk, false, true};
+ghost use Rattle.stream_tools.specs.Jobs.{has_ends};
 
 use crate::job::OsJob;
 use crate::process::{not_started, start_process};
@@ -45,6 +46,7 @@ impl<'a, P: Processes> OsLauncher<'a, P> {
     ) -> Result<OsJob, NotStarted>
         ensures program { IfOk result (λ job. ⟦<OsJob as Job>⟧.program job ≡ program.now) }
         ensures environment { IfOk result (λ job. ⟦<OsJob as Job>⟧.environment job ≡ environment.now) }
+        ensures ends { IfOk result (λ job. has_ends job ≡ false) }
     {
         let number = stream.as_raw_fd();
         self.start_over(alloc, (program, environment), (number, number), None)
@@ -82,12 +84,18 @@ impl<'a, P: Processes + Files> Launcher for OsLauncher<'a, P> {
 
     ghost refuses = { λ _ _ _ _. ⊤ };
 
+    /// As of the trait. The program stands between two pipes, and the job has their other ends to give.
     fn start(
         self,
         alloc: Global,
         program: &Program,
         environment: &Environment,
-    ) -> Result<OsJob, NotStarted> {
+    ) -> Result<OsJob, NotStarted>
+        ensures refused { IfErr result (λ _. ⊤) }
+        ensures program { IfOk result (λ job. ⟦<OsJob as Job>⟧.program job ≡ program.now) }
+        ensures environment { IfOk result (λ job. ⟦<OsJob as Job>⟧.environment job ≡ environment.now) }
+        ensures ends { IfOk result (λ job. has_ends job ≡ true) }
+    {
         let (input, to) = new_pipe(self.processes)?;
         let (from, output) = new_pipe(self.processes)?;
         let streams = (input.as_raw_fd(), output.as_raw_fd());

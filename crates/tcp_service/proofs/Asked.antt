@@ -7,7 +7,7 @@ use Rattle.server_yard.specs.Evidence.{Makes, asked_event}
 use Rattle.server_yard.specs.declared.evidence.Made.{Made}
 use Rattle.server_yard.specs.declared.evidence.OutOfTurn.{OutOfTurn}
 use Rattle.server_yard.specs.declared.yard.Yard.{Yard}
-use Rattle.tcp_service.specs.Reports.{Tells}
+use Rattle.server_log.specs.Reports.{Tells}
 
 -- in turn or not, the yard was asked for this event
 pub asked_for : {L : Type 0} {p : _} (r : Result Made OutOfTurn) (event : Event) (old new : Yard L p) → Makes event r old new → asked_event r ≡ event

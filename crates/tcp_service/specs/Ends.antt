@@ -2,8 +2,8 @@
 use Rattle.std.specs.Prelude.{Option, option_map}
 use Rattle.std.specs.declared.snapshot.Snapshot.{Snapshot}
 use Rattle.server_events.specs.declared.event.Event.{Event}
-use Rattle.tcp_service.specs.Reports.{reported_event}
-use Rattle.tcp_service.specs.declared.reporting.Reported.{Reported}
+use Rattle.server_log.specs.Reports.{reported_event}
+use Rattle.server_log.specs.declared.log.Reported.{Reported}
 use Rattle.tcp_service.specs.declared.telling.Begun.{Begun}
 use Rattle.tcp_service.specs.declared.telling.Noted.{Noted}
 use Rattle.tcp_service.specs.declared.telling.Over.{Over}

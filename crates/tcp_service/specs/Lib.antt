@@ -4,5 +4,4 @@ pub mod Ends
 pub mod Greetings
 pub mod Lives
 pub mod Openings
-pub mod Reports
 pub mod Servings

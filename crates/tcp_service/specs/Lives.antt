@@ -1,13 +1,13 @@
 -- How the life of a connection begins, and what was told last of it.
-use Rattle.std.specs.Prelude.{◌≡◌, ◌⊎◌, ℕ, Bool, true, false, Some, Result, Ok, Err, IfOk}
+use Rattle.std.specs.Prelude.{◌≡◌, ◌⊎◌, ℕ, Bool, true, false, Some, Result, IfOk}
 use Rattle.child_jobs.specs.declared.outcome.Status.{Status}
 use Rattle.rule_lookup.specs.Peers.{Client}
 use Rattle.server_events.specs.declared.event.Event.{Event}
 use Rattle.server_events.specs.declared.event.Event.TheVariants.{Admitted, Ended, Retired}
 use Rattle.server_yard.specs.Seating.{leaver}
 use Rattle.tcp_connections.specs.Rounds.{AllFail, EndsAs, FailsToWait, Kills, OneEnds, rounds}
-use Rattle.tcp_service.specs.Reports.{reported_event}
-use Rattle.tcp_service.specs.declared.reporting.Reported.{Reported}
+use Rattle.server_log.specs.Reports.{reported_event}
+use Rattle.server_log.specs.declared.log.Reported.{Reported}
 
 -- where a client is let in, the event that was made is the admission of it, by the serial that it has
 abbrev pub AdmitsOwn : {P E : Type 0} → Result (ℕ × P × Reported) E → Client → Type 0

@@ -5,11 +5,10 @@ ghost use Rattle.tcp_connections.specs.Names.{client_at, local_at};
 ghost use Rattle.tcp_service.specs.Lives.{AdmitsOwn};
 
 use crate::host::ServiceGround;
-use crate::reporting::Reported;
 use crate::server::Context;
 use child_jobs::{Local, Place};
 use rule_lookup::Peer;
-use server_log::Told;
+use server_log::{Reported, Told};
 use server_yard::{AdmitFault, NoNumbers};
 use std::alloc::Global;
 use tcp_connections::{Accepted, Entrance, HostNames, Refused};

@@ -47,7 +47,8 @@ fn cause_of(fault: DecideFault) -> DropCause
 impl<G: ServiceGround> Context<'_, G> {
     ghost use Rattle.tcp_service.specs.Greetings.{greeted_identity, greeted_with};
 
-    // Opens the rules for a connection.
+    // Opens the rules for a connection, after its client was greeted. If it may not open them now, that counts as a
+    // fault of the directory.
     #[tactic(auto, using(crate::proofs::Found::found_for))]
     fn open<X>(
         &self,
@@ -62,8 +63,12 @@ impl<G: ServiceGround> Context<'_, G> {
             (greeted_identity greeted.now).serial (opening_of G.File.bytes G.Places.missing pass)) }
         ensures given_up { IfErr result (GivesUp (λ _. ⊥) []) }
     {
-        match handle.open(self.alloc, greeted.identity.serial) {
-            Ok(file) => self.opened(greeted, file),
+        let serial = greeted.identity.serial;
+        match handle.open(self.alloc, serial) {
+            Ok(file) => match self.yard.lock(self.rt).opened(serial, file) {
+                Ok((pass, _)) => Ok(pass),
+                Err(_) => Err(DropCause::Directory),
+            },
             Err(fault) => Err(cause_of_open(fault)),
         }
     }

@@ -14,7 +14,6 @@ pub mod guest;
 pub mod host;
 mod judging;
 mod reasons;
-pub mod reporting;
 pub mod server;
 pub mod serving;
 pub mod telling;

@@ -1,24 +1,25 @@
-//! What is told of a connection. Each of its events is made in a yard that all share, and the log is told of it before
-//! the yard's lock is let go. What the yard answered goes on with the connection, and in the end says that it is over.
+//! What is told of a connection. Each of its events is made in a yard that all share. Before the yard's lock is let go
+//! the log is told of it, so that its lines stand in the order of events; only an opening has no lines. What the yard
+//! answered goes on with the connection, and in the end says that it is over.
 ghost use Rattle.std.specs.Prelude.{◌≡◌, ◌≢◌, IfErr, IfOk, None, OnErr, Some, is_ok, true};
 ghost use Rattle.child_jobs.specs.declared.outcome.DropCause.TheVariants.{Banner, Denied, Directory};
 ghost use Rattle.server_events.specs.declared.event.Event.TheVariants as event;
-ghost use Rattle.server_yard.specs.Passes.{pass_file, pass_serial};
+ghost use Rattle.server_log.specs.Reports.{Tells, reported_answer, reported_event};
+ghost use Rattle.server_yard.specs.Evidence.{asked_event};
+ghost use Rattle.server_yard.specs.Passes.{pass_serial};
 ghost use Rattle.server_yard.specs.Seating.{leaver};
 ghost use Rattle.tcp_service.specs.Lives.{IsEndOf, retires};
 ghost use Rattle.tcp_service.specs.Openings.{Decides, opening_of};
-ghost use Rattle.tcp_service.specs.Reports.{Tells, reported_answer, reported_event};
 
 use crate::guest::{CutShort, Greeted, Identity};
 use crate::host::{Rules, ServiceGround};
 use crate::reasons::{GivenUp, Reason, cause_of_absence, cause_of_damage, words_of};
-use crate::reporting::Reported;
 use crate::server::Context;
 use child_jobs::{DropCause, Exit, Job, NotStarted, Place, Running};
 use rule_lookup::Decision;
 use server_events::Event;
-use server_log::{Cause, Told};
-use server_yard::Pass;
+use server_log::{Cause, Reported, Told};
+use server_yard::{Made, OutOfTurn, Pass, Yard};
 use std::snapshot::Snapshot;
 
 /// The evidence that a connection's decision was noted. The language lets nobody drop it: it goes into what
@@ -78,25 +79,17 @@ impl<G: ServiceGround> Context<'_, G> {
     ghost use Rattle.tcp_service.specs.Ends.{begun_decided, begun_last, noted_event, over_decided, over_end};
     ghost use Rattle.tcp_service.specs.Greetings.{cut_identity, cut_with, greeted_identity, greeted_with};
 
-    /// A connection has found this file, or none, after its client was greeted.
-    ///
-    /// # Errors
-    /// It may not open the rules now, which counts as a fault of the directory.
-    pub(crate) fn opened<X>(
+    /// Tells the log what this yard, which is still locked, has just answered of an event.
+    pub(crate) fn report(
         &self,
-        greeted: &Greeted<'_, X>,
-        file: Option<G::File>,
-    ) -> Result<Pass<G::Places, G::File>, DropCause>
-        requires greeted { greeted_with greeted.now ≡ self.now.plan.now.banner }
-        ensures its { IfOk result (λ pass. pass_serial pass ≡ (greeted_identity greeted.now).serial) }
-        ensures file { IfOk result (λ pass. pass_file pass ≡ file) }
-        ensures cause { IfErr result (λ why. why ≡ Directory) }
+        yard: &Yard<G::Places>,
+        answer: Result<Made, OutOfTurn>,
+        told: Told<'_>,
+    ) -> Reported
+        requires its { Tells told (asked_event answer) }
+        ensures same { reported_answer result ≡ answer }
     {
-        let serial = greeted.identity.serial;
-        match self.yard.lock(self.rt).opened(serial, file) {
-            Ok((pass, _)) => Ok(pass),
-            Err(_) => Err(DropCause::Directory),
-        }
+        self.log.lock(self.rt).report(yard, answer, told)
     }
 
     /// The connection that opened this was decided so.

@@ -1,5 +1,6 @@
 //! Programs of the system, each with the connection that it serves.
-ghost use Rattle.std.specs.Prelude.{◌≡◌, ⊤, IfErr, IfOk, IfSome, is_some, true};
+ghost use Rattle.std.specs.Prelude.{◌≡◌, ⊤, IfErr, IfOk, IfSome, is_none, is_some, true};
+ghost use Rattle.stream_tools.specs.Jobs.{has_ends};
 ghost use Rattle.tcp_streams.specs.Asked.{IsNewPassage, connection_starter, passage_of, passing_of, port_of, pumps};
 
 use crate::passing::{Passage, Passing};
@@ -68,6 +69,7 @@ impl<'a, R: Processes + Files + Wait + Clock, E: Write + Copy + Drop> ProgramSta
     ) -> Result<OsJob, NotStarted>
         ensures program { IfOk result (λ job. ⟦<OsJob as Job>⟧.program job ≡ program.now) }
         ensures environment { IfOk result (λ job. ⟦<OsJob as Job>⟧.environment job ≡ environment.now) }
+        ensures ends { IfOk result (λ job. has_ends job ≡ is_none stream.entry) }
     {
         for waits in 0..WAITS {
             match self.start_once(alloc, program, environment, stream) {
@@ -102,6 +104,7 @@ impl<'a, R: Processes + Files + Wait + Clock, E: Write + Copy + Drop> ProgramSta
     ) -> Result<OsJob, NotStarted>
         ensures program { IfOk result (λ job. ⟦<OsJob as Job>⟧.program job ≡ program.now) }
         ensures environment { IfOk result (λ job. ⟦<OsJob as Job>⟧.environment job ≡ environment.now) }
+        ensures ends { IfOk result (λ job. has_ends job ≡ is_none stream.entry) }
     {
         let launcher = OsLauncher::new(self.rt, self.search);
         match stream {
@@ -160,6 +163,8 @@ where
         ensures environment { IfOk result (λ job. ⟦<OsJob as Job>⟧.environment job.job ≡ environment.now) }
         ensures mode { IfOk result (λ job.
             is_some (passage_of job) ≡ pumps (passing_of (connection_starter self.entry)).mode) }
+        ensures ends { IfOk result (λ job.
+            has_ends job.job ≡ pumps (passing_of (connection_starter self.entry)).mode) }
         ensures passage { IfOk result (λ job.
             IfSome (passage_of job) (IsNewPassage (passing_of (connection_starter self.entry)) (port_of self.entry))) }
     {

@@ -1,9 +1,8 @@
 //! Turns of connections: values that ask the yard of connections for one event each. They are the yard's calls without
 //! that of an opening, since a whole yard opens the rules itself (`Open`).
-ghost use Rattle.std.specs.Prelude.{◌≡◌, ⊤, ℕ, Option, Err, Some};
+ghost use Rattle.std.specs.Prelude.{◌≡◌, ⊤, ℕ, Option, Some};
 ghost use Rattle.server_events.specs.declared.event.Event.{Event as TheEvent};
 ghost use Rattle.server_events.specs.declared.event.Event.TheVariants as event;
-ghost use Rattle.server_yard.specs.Evidence.{Makes};
 ghost use Rattle.server_yard.specs.Passes.{IsDecidedBy, pass_serial};
 ghost use Rattle.server_yard.specs.Rooms.{KeepsRoom};
 ghost use Rattle.server_yard.specs.Seating.{leaver};

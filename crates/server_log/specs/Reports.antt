@@ -1,13 +1,14 @@
--- What the log is told of events.
+-- What a log is told of a yard's events.
 use Rattle.std.specs.Prelude.{◌≡◌, Result}
 use Rattle.server_events.specs.declared.event.Event.{Event}
 use Rattle.server_events.specs.declared.event.Event.TheVariants as event
+use Rattle.server_log.specs.declared.fault.LogFault.{LogFault}
 use Rattle.server_log.specs.declared.lines.Told.{Told}
 use Rattle.server_log.specs.declared.lines.Told.TheVariants as told
+use Rattle.server_log.specs.declared.log.Reported.{Reported}
 use Rattle.server_yard.specs.Evidence.{asked_event}
 use Rattle.server_yard.specs.declared.evidence.Made.{Made}
 use Rattle.server_yard.specs.declared.evidence.OutOfTurn.{OutOfTurn}
-use Rattle.tcp_service.specs.declared.reporting.Reported.{Reported}
 
 -- a log that is told this is told this event, as it was
 abbrev pub Tells : Told → Event → Type 0
@@ -20,9 +21,12 @@ Tells (told.Retired n) (event.Retired m) = n ≡ m
 Tells (told.Dropped n cause file words) (event.Dropped m why) = (n ≡ m) × (cause ≡ why)
 Tells other event = ⊥
 
--- what a yard answered, and the event that it was asked for
+-- what a yard answered, the event that it was asked for, and what became of the lines of the event
 abbrev pub reported_answer : Reported → Result Made OutOfTurn
 reported_answer reported = reported.answer
 
 abbrev pub reported_event : Reported → Event
 reported_event reported = asked_event (reported_answer reported)
+
+abbrev pub reported_lines : Reported → Result (Unit {0}) LogFault
+reported_lines reported = reported.lines
