@@ -1,5 +1,5 @@
 -- What filters do and tell, the two ways of a program that stands between streams, what a program is told when it is started, the number of a recorder,
--- where programs are looked for, which pipe ends a job has, and what is told of a program that was not started.
+-- where programs are looked for, which pipe ends a job has, what a program is started with, and what is told of one that was not started.
 pub mod Entries
 pub mod Filters
 pub mod Jobs

@@ -1,26 +1,25 @@
 //! Children of this process, waited for until they have ended, and killed.
-ghost use Rattle.std.specs.Prelude.{◌≡◌, ◌↔◌, ◌⊎◌, ℕ, pos, ⊤, IsSome, Some};
+ghost use Rattle.std.specs.Prelude.{◌≡◌, ◌↔◌, ◌⊎◌, ℕ, pos, ⊤, IsSome, Some, false, is_some};
 ghost use Rattle.std.specs.Process.{exit_code, exit_signal};
 ghost use Rattle.libc.specs.Io.{WaitFlags};
 ghost use Rattle.child_jobs.specs.declared.outcome.Status.TheVariants.{Code, Signal};
+ghost use Rattle.stream_tools.specs.Jobs.{has_ends};
 
 use crate::between::Piped;
-use child_jobs::{Environment, Exit, Job, Program, Status, WaitFault};
+use crate::child::Child;
+use child_jobs::{Exit, Job, Status, WaitFault};
 use std::os::unix::process::ExitStatusExt;
 use std::process::{ChildStdin, ChildStdout, ExitStatus};
-use std::snapshot::Snapshot;
 
 /// A child of this process, and the ends of its pipes until they are given. The language lets nobody drop it: it is
 /// waited for, or abandoned.
 pub struct OsJob {
-    pub(crate) number: i32,
+    pub(crate) child: Child,
     // whether it was waited for, by this value or by other code, so that its number may be another's
     pub(crate) gone: bool,
     // how it ended, if `is_over` saw that: `wait` answers it
     pub(crate) exit: Option<Exit>,
     pub(crate) ends: Option<(ChildStdin, ChildStdout)>,
-    pub(crate) program: Snapshot<Program>,
-    pub(crate) environment: Snapshot<Environment>,
 }
 
 impl OsJob {
@@ -38,7 +37,7 @@ impl OsJob {
         if self.gone {
             return true;
         }
-        if let Ok(exit) = wait_once(self.number, libc::WNOHANG, &mut self.gone) {
+        if let Ok(exit) = wait_once(self.child.number(), libc::WNOHANG, &mut self.gone) {
             self.exit = exit;
         }
         self.gone
@@ -50,15 +49,21 @@ impl Piped for OsJob {
 
     type Output = ChildStdout;
 
-    fn ends(&mut self) -> Option<(ChildStdin, ChildStdout)> {
+    /// As of the trait. There are ends as long as they were not given.
+    fn ends(&mut self) -> Option<(ChildStdin, ChildStdout)>
+        ensures program { ⟦<OsJob as Job>⟧.program self.new ≡ ⟦<OsJob as Job>⟧.program self.old }
+        ensures environment { ⟦<OsJob as Job>⟧.environment self.new ≡ ⟦<OsJob as Job>⟧.environment self.old }
+        ensures given { is_some result ≡ has_ends self.old }
+        ensures once { has_ends self.new ≡ false }
+    {
         self.ends.take()
     }
 }
 
 impl Job for OsJob {
-    ghost program = { λ job. job.program.value };
+    ghost program = { λ job. job.child.program.value };
 
-    ghost environment = { λ job. job.environment.value };
+    ghost environment = { λ job. job.child.environment.value };
 
     ghost killed = { λ _ _ _. ⊤ };
 
@@ -66,15 +71,21 @@ impl Job for OsJob {
 
     ghost refused_wait = { λ _ _ _. ⊤ };
 
-    fn kill(&mut self) -> Result<(), WaitFault> {
-        if self.gone || os::kill_child(self.number) < 0 {
+    /// As of the trait. The pipe ends stay as they are.
+    fn kill(&mut self) -> Result<(), WaitFault>
+        ensures told { ⊤ }
+        ensures program { ⟦<OsJob as Job>⟧.program self.new ≡ ⟦<OsJob as Job>⟧.program self.old }
+        ensures environment { ⟦<OsJob as Job>⟧.environment self.new ≡ ⟦<OsJob as Job>⟧.environment self.old }
+        ensures ends { has_ends self.new ≡ has_ends self.old }
+    {
+        if self.gone || os::kill_child(self.child.number()) < 0 {
             return Err(WaitFault::Failed);
         }
         Ok(())
     }
 
     fn process(&self) -> Option<u32> {
-        u32::try_from(self.number).ok()
+        u32::try_from(self.child.number()).ok()
     }
 
     /// As of the trait. Pipe ends that were not given are closed first: a program that waits for input could not end.
@@ -84,7 +95,7 @@ impl Job for OsJob {
             self.abandon();
             return Ok(exit);
         }
-        match wait_for_end(self.number, &mut self.gone) {
+        match wait_for_end(self.child.number(), &mut self.gone) {
             Ok(exit) => {
                 self.abandon();
                 Ok(exit)
@@ -95,12 +106,10 @@ impl Job for OsJob {
 
     fn abandon(self) {
         let OsJob {
-            number: _,
+            child: _,
             gone: _,
             exit: _,
             ends: _,
-            program: _,
-            environment: _,
         } = self;
     }
 }

@@ -12,7 +12,6 @@ use std::io;
 use std::io::{PipeReader, PipeWriter};
 use std::os::fd::{AsRawFd, OwnedFd, RawFd};
 use std::process::{ChildStdin, ChildStdout, Processes};
-use std::snapshot::Snapshot;
 
 /// Stands for this process's own descriptor, which a program is given as it is.
 const INHERITED: RawFd = -1;
@@ -49,30 +48,29 @@ impl<'a, P: Processes> OsLauncher<'a, P> {
         ensures ends { IfOk result (λ job. has_ends job ≡ false) }
     {
         let number = stream.as_raw_fd();
-        self.start_over(alloc, (program, environment), (number, number), None)
+        self.start_over(alloc, program, environment, (number, number), None)
     }
 
     // Starts a program on these two descriptors; the job has these pipe ends to give.
     fn start_over(
         &self,
         alloc: Global,
-        run: (&Program, &Environment),
+        program: &Program,
+        environment: &Environment,
         streams: (RawFd, RawFd),
         ends: Option<(ChildStdin, ChildStdout)>,
     ) -> Result<OsJob, NotStarted>
-        ensures program { IfOk result (λ job. job.program.value ≡ run.entry.0.now) }
-        ensures environment { IfOk result (λ job. job.environment.value ≡ run.entry.1.now) }
+        ensures program { IfOk result (λ job. job.child.program.value ≡ program.now) }
+        ensures environment { IfOk result (λ job. job.child.environment.value ≡ environment.now) }
         ensures ends { IfOk result (λ job. job.ends ≡ ends) }
     {
         let streams = [streams.0, streams.1, INHERITED];
-        let number = start_process(alloc, self.search, run, streams)?;
+        let child = start_process(alloc, self.search, program, environment, streams)?;
         Ok(OsJob {
-            number,
+            child,
             gone: false,
             exit: None,
             ends,
-            program: Snapshot::of(run.0),
-            environment: Snapshot::of(run.1),
         })
     }
 }
@@ -103,7 +101,7 @@ impl<'a, P: Processes + Files> Launcher for OsLauncher<'a, P> {
             ChildStdin::from(OwnedFd::from(to)),
             ChildStdout::from(OwnedFd::from(from)),
         );
-        self.start_over(alloc, (program, environment), streams, Some(ends))
+        self.start_over(alloc, program, environment, streams, Some(ends))
     }
 }
 

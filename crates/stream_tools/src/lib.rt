@@ -3,12 +3,13 @@
 //! The tools use `add_returns`, `delete_returns`, `fix_between` and `record_between`; the last two rest on
 //! `run_between`, whose pumps each promise what they wrote. `command_words` and `inherited_variables` give all that the
 //! process was given. An `OsLauncher` starts programs of the system: its job tells the program and variables with which
-//! it was started, and no more is proved. Tested only: where a program is looked for, that the system runs it, that a
-//! fault is one of the system's, and that nobody killed a program before its status was told. Under a watch nothing is
-//! known of what the input has left.
+//! it was started, and the words and variables that the system was given are proved to be exactly those. Tested only:
+//! where a program is looked for, that the system runs it, that a fault is one of the system's, and that nobody killed
+//! a program before its status was told. Under a watch nothing is known of what the input has left.
 #![tactic(auto)]
 
 pub mod between;
+mod child;
 pub mod filter;
 pub mod fixcrio;
 pub mod job;

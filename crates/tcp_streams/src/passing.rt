@@ -1,5 +1,6 @@
 //! Both ways of a pumped connection, in one thread.
-ghost use Rattle.std.specs.Prelude.{◌≡◌, IfOk};
+ghost use Rattle.std.specs.Prelude.{◌≡◌, IfOk, true};
+ghost use Rattle.stream_tools.specs.Jobs.{has_ends};
 ghost use Rattle.tcp_streams.specs.Asked.{IsNewPassage};
 
 use crate::lanes::{Lane, WayTap};
@@ -131,11 +132,12 @@ impl<'a, R: Wait + Clock, E: Write + Copy + Drop> Passage<'a, R, E> {
     /// Passes bytes between the client and this program, until nothing more passes, or the program writes no more and
     /// is over, whatever processes it left behind. It does so once; both pipe ends are closed then.
     pub fn pass(&mut self, job: &mut OsJob)
+        requires ends { has_ends job.old ≡ true }
         ensures program { ⟦<OsJob as Job>⟧.program job.new ≡ ⟦<OsJob as Job>⟧.program job.old }
         ensures environment { ⟦<OsJob as Job>⟧.environment job.new ≡ ⟦<OsJob as Job>⟧.environment job.old }
     {
         let Some((input, output)) = job.ends() else {
-            return;
+            unreachable!();
         };
         self.begin(input, output);
         let (rt, mut turns) = (self.rt, 0u32);

@@ -1,7 +1,7 @@
 //! Programs of the system, each with the connection that it serves.
 ghost use Rattle.std.specs.Prelude.{◌≡◌, ⊤, IfErr, IfOk, IfSome, is_none, is_some, true};
+ghost use Rattle.std.specs.Option.{ForSome};
 ghost use Rattle.stream_tools.specs.Jobs.{has_ends};
-ghost use Rattle.tcp_streams.specs.Asked.{IsNewPassage, connection_starter, passage_of, passing_of, port_of, pumps};
 
 use crate::passing::{Passage, Passing};
 use child_jobs::{Environment, Exit, Job, Launcher, NotStarted, Program, StartFault, WaitFault};
@@ -38,6 +38,8 @@ pub struct ProgramStarter<'a, R, E> {
 }
 
 impl<'a, R: Processes + Files + Wait + Clock, E: Write + Copy + Drop> ProgramStarter<'a, R, E> {
+    ghost use Rattle.tcp_streams.specs.Asked.{passing_of};
+
     /// A starter over the system's processes, which looks for programs in these folders. The bytes of their connections
     /// pass in this way, and are recorded to `errors`.
     pub fn new(
@@ -140,6 +142,8 @@ where
     R: Processes + Files + Wait + Clock,
     E: Write + Copy + Drop,
 {
+    ghost use Rattle.tcp_streams.specs.Asked.{IsNewPassage, connection_starter, passage_of, passing_of, port_of, pumps};
+
     type Job = ServiceJob<'a, R, E>;
 
     ghost may = { λ _ _ _. true };
@@ -203,6 +207,7 @@ pub struct ServiceJob<'a, R, E> {
     job: OsJob,
     // (in a box, since a job that is handed on takes each time as much of the stack as it is long)
     passage: Option<Box<Passage<'a, R, E>>>,
+    ghost has_pipes: { ForSome passage (λ _. has_ends job ≡ true) },
 }
 
 impl<'a, R: Wait + Clock, E: Write + Copy + Drop> Job for ServiceJob<'a, R, E> {
