@@ -5,4 +5,3 @@ pub mod RowLemmas
 pub mod VariableLemmas
 pub mod WordLemmas
 pub mod PlaceLemmas
-pub mod PlacesOutLemmas

@@ -30,4 +30,4 @@ pub use outcome::{DropCause, Exit, NotStarted, StartFault, Status};
 pub use place::Place;
 pub use plan::Plan;
 pub use running::{Running, finish, start};
-pub use table::{PlaceFault, PlaceTable, TableFault};
+pub use table::{PlaceTable, TableFault};

@@ -126,6 +126,13 @@ impl State {
         self.addresses.count(ip)
     }
 
+    /// How many connections from one address may be alive at once.
+    pub fn address_limit(&self) -> u64
+        ensures { result ≡ self.now.per_address }
+    {
+        self.per_address
+    }
+
     pub(crate) fn may_admit(&self, serial: u64, peer: &Peer) -> bool
         ensures { result ≡ may_admit self.now serial peer.now }
     {

@@ -1,5 +1,5 @@
 -- The history of a yard, and one event more.
-use Rattle.std.proofs.Common.{◌≡◌, ℕ, ◌<◌, ◌^◌, List, [], ◌∷◌, ◌++◌, map, true, false, Option, None, Some, refl, sym, ap, subst, ◌∙◌, arith}
+use Rattle.std.proofs.Common.{◌≡◌, ℕ, ◌<◌, ◌^◌, List, [], ◌∷◌, ◌++◌, map, true, false, Option, None, Some, refl, sym, ap, subst, ◌∙◌}
 use Rattle.std.specs.Prelude.{Err, IfSome, Ok, OnErr, OnOk, Result, is_some, option_map}
 use Rattle.std.proofs.Props.{props}
 use mathlib.Core.Logic.{∥∥₁_map, ∥∥₁_elim}
@@ -8,15 +8,13 @@ use Rattle.server_events.specs.declared.journal.Noted.{Noted}
 use Rattle.server_events.proofs.ReportSteps.{goes_on as told_on}
 use Rattle.rule_lookup.specs.Pairs.{Rule}
 use Rattle.server_events.specs.declared.event.Event.{Event}
-use Rattle.server_events.specs.declared.event.Stage.{Stage}
 use Rattle.server_events.specs.ServerState.{ServerState, after, is_legal, may_happen, stage_of, start, state_after, without, peer_of}
 use Rattle.server_events.proofs.History.{is_legal-snoc, state_after-snoc}
 use Rattle.server_events.proofs.Limits.{limit_after, per_address_after}
 use Rattle.server_events.proofs.LiveLemmas.{tells}
 use Rattle.server_events.proofs.Peers.{stage_of-without, peer_of-without}
-use Rattle.server_events.proofs.Serials.{Rise, stage_of-le}
+use Rattle.server_events.proofs.Serials.{Rise}
 use Rattle.server_yard.specs.Rolls.{HasHistory, IsHistory, StoresNothing}
-use Rattle.server_yard.proofs.Peopled.{above_none}
 
 -- the empty history
 pub none_yet : (books : Books) (limit per_address : ℕ) → TellsOf books [] → StoresNothing books → IsHistory books (start limit per_address) []
@@ -109,24 +107,13 @@ rises books s h is =
 none_is : {X : Type 0} (o : Option X) → o ≡ None → is_some o ≡ false
 none_is o is = ap (λ (x : Option _). is_some x) is
 
--- no connection has the next serial, and none has that of one that is gone
+-- no connection has the serial of one that is gone
 pub record Distinct (s : ServerState) : Type 0 where
-  pub fresh_peer : (n : ℕ) → s.last < n → is_some (peer_of n s.connections) ≡ false
-  pub fresh_stage : (n : ℕ) → s.last < n → is_some (stage_of n s.connections) ≡ false
   pub gone_peer : (n : ℕ) → is_some (peer_of n (without n s.connections)) ≡ false
   pub gone_stage : (n : ℕ) → is_some (stage_of n (without n s.connections)) ≡ false
 
-above_stage : (n low : ℕ) (s : ServerState) → Rise low s.connections s.last → s.last < n → is_some (stage_of n s.connections) ≡ false
-above_stage n low s h above = go (stage_of n s.connections) refl where
-  go : (o : Option Stage) → stage_of n s.connections ≡ o → is_some o ≡ false
-  go None is = refl
-  go (Some t) is = let below = stage_of-le n t low s.connections s.last h is in absurd (omega (arith, below, above))
-
 pub distinct : (books : Books) (s : ServerState) → HasHistory books s → Distinct s
 distinct books s has = record {
-  fresh_peer = λ n above. ∥∥₁_elim has (hlevel props) (λ (x : (h : List Event) × IsHistory books s h). above_none n 0 s.connections s.last (rises books s x.0 x.1) above);
-  fresh_stage =
-      λ n above. ∥∥₁_elim has (hlevel props) (λ (x : (h : List Event) × IsHistory books s h). above_stage n 0 s (rises books s x.0 x.1) above);
   gone_peer = λ n. ∥∥₁_elim has (hlevel props) (λ (x : (h : List Event) × IsHistory books s h). none_is _ (peer_of-without n 0 s.connections s.last (rises books s x.0 x.1)));
   gone_stage = λ n. ∥∥₁_elim has (hlevel props) (λ (x : (h : List Event) × IsHistory books s h). none_is _ (stage_of-without n 0 s.connections s.last (rises books s x.0 x.1)));
 }

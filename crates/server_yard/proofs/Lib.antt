@@ -3,7 +3,6 @@ pub mod Peopled
 pub mod Histories
 pub mod Seating
 pub mod Outcomes
-pub mod Gone
 pub mod Living
 pub mod Running
 pub mod Noting

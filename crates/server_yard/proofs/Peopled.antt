@@ -1,19 +1,14 @@
--- Who is alive after an event, and from where.
-use Rattle.std.proofs.Common.{◌≡◌, ℕ, ◌+◌, ◌<◌, ◌≤◌, List, [], ◌∷◌, length, true, false, ◌==◌, cond, Option, None, Some, refl, sym, ap, ◌∙◌, arith, add_comm, bytes_eq}
-use Rattle.std.specs.Prelude.{if◌then◌else◌, is_some}
+-- Who is alive after an event.
+use Rattle.std.proofs.Common.{◌≡◌, ℕ, ◌≤◌, length, true, cond, Option, None, Some, refl, ap, arith}
 use Rattle.std.proofs.lemmas.Bool.{not-true}
-use Rattle.std.proofs.lemmas.Bool.Decides.{nat_tests}
-use Rattle.rule_lookup.specs.Peers.{Client}
 use Rattle.server_events.specs.declared.event.Event.{Event}
 use Rattle.server_events.specs.declared.event.Event.TheVariants.{Retired}
 use Rattle.server_events.specs.declared.event.Stage.{Stage}
 use Rattle.server_events.specs.declared.event.Stage.TheVariants as stage
-use Rattle.server_events.specs.declared.state.Connection.{Connection}
-use Rattle.server_events.specs.ServerState.{Effect, ServerState, lets_in, opens, decides, brings, lets_go, comes_to, fails_at, ends_all, after, count_from, effect, is_retired, is_started, may_happen, may_have, with_effect, with_stage, without, is_connections, is_installations, of_connections, of_installations, peer_of}
+use Rattle.server_events.specs.ServerState.{Effect, ServerState, lets_in, opens, decides, brings, lets_go, comes_to, fails_at, ends_all, after, effect, is_retired, is_started, may_happen, may_have, with_effect, with_stage, is_connections, is_installations, of_connections, of_installations, peer_of}
 use Rattle.server_events.proofs.Effects.{Sound, sound}
-use Rattle.server_events.proofs.Limits.{count_from-cons, count_from-with_stage, length-with_stage, one_from}
+use Rattle.server_events.proofs.Limits.{length-with_stage}
 use Rattle.server_events.proofs.Peers.{peer_of-with_stage}
-use Rattle.server_events.proofs.Serials.{Rise, Rise-le}
 use Rattle.server_events.specs.Journals.{FitsBy, FitsSerial}
 use Rattle.server_events.proofs.Countings.{moves_with, retired_in, weight}
 use Rattle.server_yard.specs.Rooms.{events_left}
@@ -22,20 +17,16 @@ use Rattle.server_yard.specs.Seating.{goes_on, goes_on_by, leaver, leaver_by}
 -- nobody comes or goes
 pub record NobodyMoves (w v : ServerState) : Type 0 where
   pub peers : (n : ℕ) → peer_of n v.connections ≡ peer_of n w.connections
-  pub from : (ip : List ℕ) → count_from ip v.connections ≡ count_from ip w.connections
   pub live : length v.connections ≡ length w.connections
   pub last : v.last ≡ w.last
   pub limit : v.limit ≡ w.limit
-  pub per_address : v.per_address ≡ w.per_address
 
 staged : (w : ServerState) (n : ℕ) (s : Stage) → NobodyMoves w (record w { connections = with_stage n s w.connections })
 staged w n s = record {
   peers = λ m. peer_of-with_stage m n s w.connections;
-  from = λ ip. count_from-with_stage ip n s w.connections;
   live = length-with_stage n s w.connections;
   last = refl;
   limit = refl;
-  per_address = refl;
 }
 
 pub retired_stays : (w : ServerState) (n : ℕ) → NobodyMoves w (after w (Retired n))
@@ -74,48 +65,12 @@ installs_with w (opens m there) k = absurd (cc)
 installs_with w (decides m decision) k = absurd (cc)
 installs_with w (brings m from to) k = absurd (cc)
 installs_with w (lets_go m from) k = absurd (cc)
-installs_with w (comes_to phase) k = record { peers = λ n. refl; from = λ ip. refl; live = refl; last = refl; limit = refl; per_address = refl }
-installs_with w (fails_at phase) k = record { peers = λ n. refl; from = λ ip. refl; live = refl; last = refl; limit = refl; per_address = refl }
+installs_with w (comes_to phase) k = record { peers = λ n. refl; live = refl; last = refl; limit = refl }
+installs_with w (fails_at phase) k = record { peers = λ n. refl; live = refl; last = refl; limit = refl }
 installs_with w ends_all k = absurd (cc)
 
 pub installing_stays : (w : ServerState) (e : Event) → is_installations e ≡ true → NobodyMoves w (after w e)
 installing_stays w e k = installs_with w (effect e) k
-
-some_client : (x y : Client) → ◌≡◌ {A = Option Client} (Some x) (Some y) → x ≡ y
-some_client x y e = cc
-
--- one goes, from its own address alone
-pub count_from-without-some : (n : ℕ) (peer : Client) (ip : List ℕ) (cs : List Connection) → peer_of n cs ≡ Some peer
-    → count_from ip (without n cs) + cond (bytes_eq peer.ip ip) 1 0 ≡ count_from ip cs
-count_from-without-some n peer ip [] e = absurd (cc)
-count_from-without-some n peer ip (c ∷ cs) e =
-    elim (c.serial == n) as (λ b. (if b then Some c.peer else peer_of n cs) ≡ Some peer → count_from ip (if b then cs else (c ∷ without n cs)) + cond (bytes_eq peer.ip ip) 1 0 ≡ count_from ip (c ∷ cs)) [
-      | true ↦ λ here.
-          let same : cond (bytes_eq peer.ip ip) 1 0 ≡ one_from ip c = ap (λ (p : Client). cond (bytes_eq p.ip ip) 1 0) (sym (some_client c.peer peer here)) in
-          ap (λ (k : ℕ). count_from ip cs + k) same ∙ add_comm (count_from ip cs) (one_from ip c) ∙ sym (count_from-cons ip c cs)
-      | false ↦ λ later.
-          let rest = count_from-without-some n peer ip cs later in
-          let whole = count_from-cons ip c cs in
-          let less = count_from-cons ip c (without n cs) in
-          let all : count_from ip (c ∷ without n cs) + cond (bytes_eq peer.ip ip) 1 0 ≡ count_from ip (c ∷ cs) = omega (arith, rest, whole, less) in
-          all
-    ] e
-
--- who has a peer has a serial among those that rise
-pub peer_of-le : (n : ℕ) (peer : Client) (low : ℕ) (cs : List Connection) (high : ℕ) → Rise low cs high → peer_of n cs ≡ Some peer → n ≤ high
-peer_of-le n peer low [] high h e = absurd (cc)
-peer_of-le n peer low (c ∷ cs) high h e =
-    let top = Rise-le c.serial cs high h.1 in
-    elim (c.serial == n) as (λ b. (c.serial == n) ≡ b → (if b then Some c.peer else peer_of n cs) ≡ Some peer → n ≤ high) [
-      | true ↦ λ same here. grind (arith, nat_tests, same, top)
-      | false ↦ λ other later. peer_of-le n peer c.serial cs high h.1 later
-    ] refl e
-
-pub above_none : (n low : ℕ) (cs : List Connection) (high : ℕ) → Rise low cs high → high < n → is_some (peer_of n cs) ≡ false
-above_none n low cs high h above = go (peer_of n cs) refl where
-  go : (o : Option Client) → peer_of n cs ≡ o → is_some o ≡ false
-  go None is = refl
-  go (Some peer) is = let below = peer_of-le n peer low cs high h is in absurd (omega (arith, below, above))
 
 -- nobody is retired by an event by which a connection goes on
 retired_with : (w : ServerState) (x : Effect) → Sound x → goes_on_by x ≡ true → may_have w x ≡ true

@@ -1,5 +1,5 @@
 -- The room that the connections of a state still need, after an event.
-use Rattle.std.proofs.Common.{◌≡◌, ℕ, ◌+◌, ◌≤◌, List, [], ◌∷◌, ◌++◌, true, false, ◌==◌, Option, Some, refl, sym, ap, ◌∙◌, arith}
+use Rattle.std.proofs.Common.{◌≡◌, ℕ, ◌+◌, ◌-◌, ◌≤◌, List, [], ◌∷◌, ◌++◌, true, false, ◌==◌, Option, Some, refl, sym, ap, ◌∙◌, arith}
 use Rattle.std.specs.Prelude.{if◌then◌else◌}
 use Rattle.server_events.specs.declared.event.Event.{Event}
 use Rattle.server_events.specs.declared.event.Stage.{Stage}
@@ -7,7 +7,7 @@ use Rattle.server_events.specs.declared.event.Stage.TheVariants as stage
 use Rattle.server_events.specs.declared.state.Connection.{Connection}
 use Rattle.server_events.specs.ServerState.{Effect, ServerState, lets_in, opens, decides, brings, lets_go, comes_to, fails_at, ends_all, after, effect, is_retired, may_happen, may_have, stage_of, with_effect, with_stage, without}
 use Rattle.server_events.proofs.Effects.{Sound, is_admitted-true, is_opened-true, rank, sound}
-use Rattle.server_yard.specs.Rooms.{events_left, room_needed}
+use Rattle.server_yard.specs.Rooms.{events_left, room_needed, spare_events}
 use Rattle.server_yard.specs.Seating.{goes_on, goes_on_by, leaver, leaver_by}
 
 room-cons : (c : Connection) (cs : List Connection) → room_needed (c ∷ cs) ≡ events_left c.stage + room_needed cs
@@ -118,3 +118,8 @@ off_by w ends_all n its k may = absurd (cc)
 
 pub goes_off : (w : ServerState) (e : Event) (n : ℕ) → leaver e ≡ Some n → may_happen w e ≡ true → GoesOff w (effect e) n
 goes_off w e n k may = off_by w (effect e) n (sound e) k may
+
+-- what room a connection gives back when it goes
+pub spare_is : (s : ServerState) (n : ℕ) (at : Stage) → stage_of n s.connections ≡ Some at
+    → spare_events (stage_of n s.connections) ≡ events_left at - 1
+spare_is s n at is = ap (λ (o : Option Stage). spare_events o) is

@@ -1,6 +1,5 @@
 -- Connections and the places that they were given.
 use Rattle.std.specs.Prelude.{◌≡◌, ◌<◌, ◌≤◌, ◌+◌, ◌-◌, ◌^◌, ◌==◌, ◌⊎◌, ℕ, Bool, true, false, not, List, Option, Some, None, length, if◌then◌else◌}
-use Rattle.std.specs.FinMap as map
 use Rattle.child_jobs.specs.PlacesOut.{PlacesOut, is_used}
 use Rattle.rule_lookup.specs.Peers.{Client}
 use Rattle.server_events.specs.ServerState.{Effect, ServerState, opens, decides, brings, lets_go, count_from, effect, is_retired, peer_of}
@@ -24,11 +23,11 @@ KeepsSerials server old new = (index : ℕ) → serial_at (new index) server ≡
 abbrev pub LosesOne : PlacesOut → (old new : ℕ → Option ℕ) → Type 0
 LosesOne table old new = (index : ℕ) → (new index ≡ old index) ⊎ ((new index ≡ None) × (is_used table index ≡ false))
 
--- No seat was given to a serial above the last. The place of a seat whose connection is alive is out, for the address of its peer.
+-- No seat was given to a serial above the last. The place of a seat whose connection is alive is out.
 pub record HasSeats (seat : ℕ → Option ℕ) (table : PlacesOut) (server : ServerState) : Type 0 where
   pub up_to_last : (index serial : ℕ) → seat index ≡ Some serial → serial ≤ server.last
-  pub for_its_peer : (index serial : ℕ) (peer : Client) → seat index ≡ Some serial → peer_of serial server.connections ≡ Some peer
-      → map.get table.places index ≡ Some peer.ip
+  pub is_out : (index serial : ℕ) (peer : Client) → seat index ≡ Some serial → peer_of serial server.connections ≡ Some peer
+      → is_used table index ≡ true
 
 -- a connection could be let in, but no serial is left
 abbrev pub IsSpent : ServerState → Type 0

@@ -61,7 +61,7 @@ pub record MayBeDecided {L F : Type 0} {p : _} (pass : Pass L F) (peer : Client)
 
 -- a yard that was just made of these
 pub record IsMade {L : Type 0} {p : _} (limit per_address : ℕ) (journal : Journal) (y : Yard L p) : Type 0 where
-  pub has_limits : (0 < limit) × (0 < per_address)
+  pub has_limit : 0 < limit
   pub empty : yard_server y ≡ start limit per_address
   pub has_journal : yard_journal y ≡ journal
   pub nobody_speaks : (yard_roll y).speaker ≡ 0

@@ -4,7 +4,7 @@ ghost use Rattle.std.specs.List.{count_by};
 ghost use Rattle.std.specs.BTreeMap.{get};
 ghost use Rattle.std.specs.Ordering.{nat_cmp};
 ghost use Rattle.child_jobs.specs.Runs.{place_of};
-ghost use Rattle.child_jobs.specs.PlacesOut.{is_used, live_at, live_of, OneMoreAt, RefusesLimits, with_place};
+ghost use Rattle.child_jobs.specs.PlacesOut.{is_used, live_of, RefusesLimits, with_place};
 ghost use Rattle.server_events.specs.JournalParts.{books_of_journal, has_room};
 ghost use Rattle.server_events.specs.ServerState.{after, count_from, is_connections, is_retired, may_admit, may_happen, stage_of, peer_of};
 ghost use Rattle.server_events.specs.declared.event.Event.{Event};
@@ -64,10 +64,8 @@ pub struct Yard<L: Places> {
     pub ghost ran: { L.installs ≡ false → HasRunTo (books_of_journal journal) state },
     pub ghost small: { state.limit < 2 ^ 64 },
     pub ghost live: { live_of table ≡ length state.connections },
-    pub ghost at_each_address: { (ip : List ℕ) → live_at ip table ≡ count_from ip state.connections },
     pub ghost retired: { table.retired ≡ count_by (λ c. is_retired c.stage) state.connections },
     pub ghost limit: { table.limit ≡ state.limit },
-    pub ghost per_address: { table.per_address ≡ state.per_address },
     pub ghost seated: { HasSeats (get nat_cmp seats) table state },
     pub ghost room: { has_room journal (room_needed state.connections) ≡ true },
 }
@@ -96,11 +94,11 @@ impl<L: Places> Yard<L> {
 
     /// A yard without connections.
     ///
-    /// At most `limit` connections are alive at once, and at most `per_address` from one address. `blank` has as many
-    /// parts as the limit says, and the journal has no event.
+    /// At most `limit` connections are alive at once, and at most `per_address` from one address; so with 0 for that
+    /// nobody is let in. `blank` has as many parts as the limit says, and the journal has no event.
     ///
     /// # Errors
-    /// `ZeroLimit` if the limit is 0; otherwise `ZeroAddressLimit` if the limit per address is 0.
+    /// `ZeroLimit` if the limit is 0.
     pub fn new(
         alloc: Global,
         blank: Blank,
@@ -112,9 +110,9 @@ impl<L: Places> Yard<L> {
         requires parts { (blank.parts ≡ L.parts) × (blank.parts ≡ limit) }
         requires journal { HasNoEvents (books_of_journal journal) }
         ensures made { IfOk result (IsMade limit per_address journal) }
-        ensures refused { IfErr result (RefusesLimits limit per_address) }
+        ensures refused { IfErr result (RefusesLimits limit) }
     {
-        let table = PlaceTable::with_address_limit(alloc, blank, limit, per_address)?;
+        let table = PlaceTable::new(alloc, blank, limit)?;
         Ok(Yard {
             state: State::new(alloc, limit, per_address),
             table,
@@ -241,7 +239,7 @@ impl<L: Places> Yard<L> {
         let Some(serial) = self.state.last().checked_add(1) else {
             return Err(AdmitFault::Spent(NoNumbers::of(self)));
         };
-        if self.state.live_from(peer.ip()) == self.table.address_limit() {
+        if self.state.live_from(peer.ip()) == self.state.address_limit() {
             return Err(AdmitFault::FullForAddress);
         }
         Ok(serial)
@@ -269,7 +267,6 @@ impl<L: Places> Yard<L> {
             &mut self.table,
             &mut self.seats,
             &mut self.state,
-            peer,
             serial,
             &event,
         ) {
@@ -476,23 +473,19 @@ fn give_place<L: Ledger>(
     table: &mut PlaceTable<L>,
     seats: &mut BTreeMap<usize, u64>,
     state: &mut State,
-    peer: &Peer,
     serial: u64,
     event: &Event,
 ) -> Result<Place<L>, AllocError>
-    requires is_admission { event.now ≡ Admitted serial peer.now }
-    requires may { may_happen state.old (Admitted serial peer.now) ≡ true }
+    requires may { may_happen state.old event.now ≡ true }
     requires open { live_of table.old < table.old.limit }
-    requires open_to_it { live_at peer.now.ip table.old < table.old.per_address }
     ensures vacant { IfOk result (λ place. is_used table.old place ≡ false) }
-    ensures placed { IfOk result (λ place. table.new ≡ with_place place peer.now.ip table.old) }
-    ensures one_more { OnOk result (OneMoreAt peer.now.ip table.old table.new) }
+    ensures placed { IfOk result (λ place. table.new ≡ with_place place table.old) }
     ensures seated { IfOk result (λ place. GivesSeat place serial (get nat_cmp seats.old) (get nat_cmp seats.new)) }
-    ensures admitted { OnOk result (state.new ≡ after state.old (Admitted serial peer.now)) }
+    ensures admitted { OnOk result (state.new ≡ after state.old event.now) }
     ensures err { OnErr result ((table.new ≡ table.old) × (state.new ≡ state.old)) }
     ensures err_seats { OnErr result (LosesOne table.old (get nat_cmp seats.old) (get nat_cmp seats.new)) }
 {
-    let Ok(place) = table.admit(peer) else {
+    let Some(place) = table.admit() else {
         unreachable!()
     };
     let index = place.index();

@@ -91,7 +91,7 @@ module _ {L D F : Type 0} {p : assumptions.Ghosts L} {l : places.Ghosts L} {d : 
 
   -- a yard that was just made of these
   pub record IsMadeWhole (directory : D) (rules : Option RulesName) (limit per_address : ℕ) (journal : Journal) (y : WholeYard L D F p l d f) : Type 0 where
-    pub has_limits : (0 < limit) × (0 < per_address)
+    pub has_limit : 0 < limit
     pub empty : whole_server y ≡ start limit per_address
     pub has_journal : yard_journal y.yard ≡ journal
     pub nobody_speaks : (whole_roll y).speaker ≡ 0

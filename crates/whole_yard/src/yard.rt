@@ -83,7 +83,7 @@ impl<L: Assumptions, D: Dir + Drop> WholeYard<L, D> {
     /// address. `blank` has as many parts as the limit says, and the journal has no event.
     ///
     /// # Errors
-    /// `ZeroLimit` if the limit is 0; otherwise `ZeroAddressLimit` if the limit per address is 0.
+    /// `ZeroLimit` if the limit is 0.
     pub fn new(
         alloc: Global,
         blank: Blank,
@@ -100,7 +100,7 @@ impl<L: Assumptions, D: Dir + Drop> WholeYard<L, D> {
         requires installs { L.installs ≡ true }
         requires missing { missing_by (rules_of rules) ≡ L.missing }
         ensures made { IfOk result (IsMadeWhole dir (rules_of rules) limit per_address journal) }
-        ensures refused { IfErr result (RefusesLimits limit per_address) }
+        ensures refused { IfErr result (RefusesLimits limit) }
     {
         Ok(WholeYard {
             yard: Yard::new(alloc, blank, limit, per_address, journal)?,

@@ -3,4 +3,4 @@ use Rattle.child_jobs.proofs.PlaceLemmas.{len-places}
 use Rattle.child_jobs.proofs.table.PlaceTable.retire.Goals as goal
 
 pub returns-clause-within : goal.returns-clause-within
-returns-clause-within g c = omega (arith, len-places c.self.inside.addresses)
+returns-clause-within g c = omega (arith, len-places c.self.inside.indices)

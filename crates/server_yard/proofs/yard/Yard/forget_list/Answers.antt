@@ -14,10 +14,8 @@ invariant_of-self g c =
       ran = λ serves. ran_same (ap (λ (b : Books). b.count) is) (ap (λ (b : Books). b.notes) is) refl (old.ran serves);
       small = old.small;
       live = old.live;
-      at_each_address = old.at_each_address;
       retired = old.retired;
       limit = old.limit;
-      per_address = old.per_address;
       seated = old.seated;
       room = c.forget_list.ensures.room (room_needed old.state.connections) ∙ old.room;
     }

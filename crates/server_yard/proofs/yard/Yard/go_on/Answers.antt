@@ -36,10 +36,8 @@ invariant_of-self g c =
       ran = λ serves. ran_on more (goes_on_own e c.requires.kind) (old.ran serves);
       small = subst (λ (n : ℕ). n < 2 ^ 64) (sym stays.limit) old.small;
       live = old.live ∙ sym stays.live;
-      at_each_address = λ ip. old.at_each_address ip ∙ sym (stays.from ip);
       retired = old.retired ∙ sym (ap (λ (u : ServerState). retired_in u.connections) now ∙ retired_goes_on old.state e c.requires.kind may);
       limit = old.limit ∙ sym stays.limit;
-      per_address = old.per_address ∙ sym stays.per_address;
       seated = seats_stay (get nat_cmp old.seats) old.table old.state s stays old.seated;
       room = c.note.ensures.room (room_needed s.connections) ∙ subst (λ (n : ℕ). has_room old.journal n ≡ true) (sym less) old.room;
     }

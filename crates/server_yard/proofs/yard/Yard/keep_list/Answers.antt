@@ -15,10 +15,8 @@ invariant_of-self g c =
       ran = λ serves. ran_same same.1 same.2 refl (old.ran serves);
       small = old.small;
       live = old.live;
-      at_each_address = old.at_each_address;
       retired = old.retired;
       limit = old.limit;
-      per_address = old.per_address;
       seated = old.seated;
       room = c.keep_list.ensures.room (room_needed old.state.connections) ∙ old.room;
     }

@@ -1,21 +1,19 @@
 use Rattle.server_events.specs.JournalParts.{has_room}
 use Rattle.server_events.proofs.JournalRoom.{less_room}
 use Rattle.std.proofs.Common.{◌≡◌, ◌<◌, ◌+◌, ◌^◌, ℕ, length, true, sym, ap, subst, ◌∙◌, arith}
-use Rattle.std.specs.Prelude.{is_some}
 use Rattle.std.specs.BTreeMap.{get}
 use Rattle.std.specs.Ordering.{nat_cmp}
-use Rattle.child_jobs.specs.PlacesOut.{PlacesOut, without_place}
+use Rattle.child_jobs.specs.PlacesOut.{PlacesOut, live_of, without_place}
 use Rattle.server_events.specs.Journals.{Books}
 use Rattle.server_events.proofs.Countings.{length-without-some, retired_in, retired_in-without}
-use Rattle.server_events.specs.ServerState.{ServerState, count_from, stage_of, without}
+use Rattle.server_events.specs.ServerState.{ServerState, stage_of, without}
 use Rattle.server_events.proofs.Peers.{stage_of-peer_of}
 use Rattle.server_yard.specs.Rooms.{room_needed}
 use Rattle.server_yard.specs.Seating.{HasSeats}
 use Rattle.server_yard.proofs.Histories.{OneMore, distinct, has_history_on, nothing}
-use Rattle.server_yard.proofs.Gone.{left_at, spare_is}
 use Rattle.server_yard.proofs.Peopled.{leaver_fits, leaver_own, not_retired}
-use Rattle.server_yard.proofs.RoomLemmas.{goes_off, room-without}
-use Rattle.server_yard.proofs.Seating.{seats_go}
+use Rattle.server_yard.proofs.RoomLemmas.{goes_off, room-without, spare_is}
+use Rattle.server_yard.proofs.Seating.{live-without, seats_go}
 use Rattle.server_yard.proofs.Running.{ran_on}
 use Rattle.server_yard.proofs.yard.Yard.leave.Goals as goal
 
@@ -24,7 +22,7 @@ leave-requires g c =
     let old = c.args.self.now in
     let off = goes_off old.state c.args.event c.args.serial c.requires.kind c.requires.may in
     let its = stage_of-peer_of c.args.serial off.at old.state.connections off.has_stage in
-    ap (λ o. is_some o) (old.seated.for_its_peer c.args.place c.args.serial its.0 c.requires.seat its.1)
+    old.seated.is_out c.args.place c.args.serial its.0 c.requires.seat its.1
 
 pub note-requires : goal.note-requires
 note-requires g c =
@@ -51,9 +49,8 @@ invariant_of-self g c =
     let off = goes_off old.state e n c.requires.kind c.requires.may in
     let now = c.in-Ok.ensures.applied ∙ off.is_without in
     let its = stage_of-peer_of n off.at old.state.connections off.has_stage in
-    let placed = old.seated.for_its_peer place n its.0 c.requires.seat its.1 in
-    let fewer = c.leave.ensures.one_less its.0.ip placed in
-    let table = c.leave.ensures.left in
+    let table = c.leave.ensures in
+    let fewer = ap live_of table ∙ live-without old.table place (old.seated.is_out place n its.0 c.requires.seat its.1) in
     let sums = room-without n off.at old.state.connections off.has_stage in
     let spare = c.spare-spare.ensures ∙ spare_is old.state n off.at off.has_stage in
     let less = ap (λ (u : ServerState). room_needed u.connections) now in
@@ -69,13 +66,9 @@ invariant_of-self g c =
       history = has_history_on more old.history;
       ran = λ serves. ran_on more (leaver_own e n c.requires.kind) (old.ran serves);
       small = subst (λ (k : ℕ). k < 2 ^ 64) (sym (ap (λ (u : ServerState). u.limit) now)) old.small;
-      live = omega (arith, old.live, fewer.live, shorter, one_less);
-      at_each_address =
-          λ ip. left_at ip n its.0 old.state old.table c.leave.new.self fewer (old.at_each_address ip) its.1
-          ∙ sym (ap (λ (u : ServerState). count_from ip u.connections) now);
+      live = omega (arith, old.live, fewer, shorter, one_less);
       retired = ap (λ (t : PlacesOut). t.retired) table ∙ omega (arith, old.retired, marks, marked, none);
       limit = ap (λ (t : PlacesOut). t.limit) table ∙ old.limit ∙ sym (ap (λ (u : ServerState). u.limit) now);
-      per_address = ap (λ (t : PlacesOut). t.per_address) table ∙ old.per_address ∙ sym (ap (λ (u : ServerState). u.per_address) now);
       seated = subst (λ (t : PlacesOut). HasSeats (get nat_cmp old.seats) t c.apply.new.self) (sym table) (subst (λ (u : ServerState). HasSeats (get nat_cmp old.seats) (without_place place old.table) u) (sym now) (seats_go (get nat_cmp old.seats) old.table old.state n place apart c.requires.seat old.seated));
       room =
           c.release.ensures.room (room_needed c.apply.new.self.connections)

@@ -13,7 +13,7 @@ returns-clause-may g c =
     let live = c.live.ensures.value ∙ old.live in
     let limit = c.limit.ensures ∙ old.limit in
     let from = c.live_from.ensures ∙ ap (λ ip. count_from ip old.state.connections) c.ip.ensures in
-    let per = c.address_limit.ensures ∙ old.per_address in
+    let per = c.address_limit.ensures in
     let some = c.in-Some.ensures in
     let last = c.last.ensures in
     let other = c.if-live-limit.false in
@@ -28,6 +28,6 @@ pub returns-clause-full_for_address : goal.returns-clause-full_for_address
 returns-clause-full_for_address g c =
     let old = c.args.self.now in
     let from = c.live_from.ensures ∙ ap (λ ip. count_from ip old.state.connections) c.ip.ensures in
-    let per = c.address_limit.ensures ∙ old.per_address in
+    let per = c.address_limit.ensures in
     let other = c.if-live_from-address_limit.false in
     (λ e. absurd (cc), λ full. absurd (let here = full.1.2 in grind (arith, from, per, other, here)))

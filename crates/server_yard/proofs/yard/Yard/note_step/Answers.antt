@@ -29,10 +29,8 @@ invariant_of-self g c =
       ran = λ serves. absurd (cc);
       small = subst (λ (n : ℕ). n < 2 ^ 64) (sym stays.limit) old.small;
       live = old.live ∙ sym stays.live;
-      at_each_address = λ ip. old.at_each_address ip ∙ sym (stays.from ip);
       retired = old.retired ∙ sym (ap retired_in same);
       limit = old.limit ∙ sym stays.limit;
-      per_address = old.per_address ∙ sym stays.per_address;
       seated = seats_stay (get nat_cmp old.seats) old.table old.state s stays old.seated;
       room =
           c.note.ensures.room (room_needed s.connections)

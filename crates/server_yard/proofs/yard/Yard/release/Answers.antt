@@ -13,10 +13,8 @@ invariant_of-self g c =
       ran = λ serves. ran_kept same refl (old.ran serves);
       small = old.small;
       live = old.live;
-      at_each_address = old.at_each_address;
       retired = old.retired;
       limit = old.limit;
-      per_address = old.per_address;
       seated = old.seated;
       room = c.release.ensures.room (room_needed old.state.connections) ∙ c.requires.room;
     }

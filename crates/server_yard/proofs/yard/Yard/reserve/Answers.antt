@@ -17,10 +17,8 @@ invariant_of-self g c =
       ran = λ serves. ran_kept same refl (old.ran serves);
       small = old.small;
       live = old.live;
-      at_each_address = old.at_each_address;
       retired = old.retired;
       limit = old.limit;
-      per_address = old.per_address;
       seated = old.seated;
       room = kept_room (has_room old.journal) (has_room c.reserve.new.self) needed 1 c.reserve.result (λ n m l r. less_room c.reserve.new.self n m l r) c.reserve.ensures.room c.reserve.ensures.err old.room;
     }

@@ -1,11 +1,10 @@
 use Rattle.server_events.specs.JournalParts.{has_room}
 use Rattle.server_events.proofs.JournalRoom.{less_room}
 use Rattle.std.proofs.Common.{◌≡◌, ◌<◌, ◌+◌, ◌^◌, ℕ, true, refl, rules, sym, ap, subst, ◌∙◌, arith}
-use Rattle.std.specs.Prelude.{is_some}
 use Rattle.std.specs.BTreeMap.{get}
 use Rattle.std.specs.Ordering.{nat_cmp}
 use Rattle.child_jobs.specs.Runs.{place_of}
-use Rattle.child_jobs.specs.PlacesOut.{PlacesOut, live_at, live_of}
+use Rattle.child_jobs.specs.PlacesOut.{PlacesOut, live_of}
 use Rattle.server_events.proofs.Countings.{moves, retired_in}
 use Rattle.server_events.specs.ServerState.{ServerState}
 use Rattle.server_events.specs.declared.event.Event.TheVariants as event
@@ -27,7 +26,7 @@ retire-requires g c =
     let started = started_is _ in_turn.may in
     let its = stage_of-peer_of c.args.serial _ old.state.connections started in
     let seat = ap (get nat_cmp old.seats) (sym (c.index.ensures ∙ c.place.ensures)) ∙ in_turn.seat in
-    ap (λ o. is_some o) (old.seated.for_its_peer (place_of c.args.running) c.args.serial its.0 seat its.1)
+    old.seated.is_out (place_of c.args.running) c.args.serial its.0 seat its.1
 
 pub note-requires : goal.note-requires
 note-requires g c =
@@ -55,10 +54,8 @@ invariant_of-self g c =
       ran = λ serves. ran_on more refl (old.ran serves);
       small = subst (λ (k : ℕ). k < 2 ^ 64) (sym stays.limit) old.small;
       live = ap live_of table ∙ old.live ∙ sym stays.live;
-      at_each_address = λ ip. ap (live_at ip) table ∙ old.at_each_address ip ∙ sym (stays.from ip);
       retired = ap (λ (t : PlacesOut). t.retired) table ∙ ap (λ (k : ℕ). k + 1) old.retired ∙ sym marks;
       limit = ap (λ (t : PlacesOut). t.limit) table ∙ old.limit ∙ sym stays.limit;
-      per_address = ap (λ (t : PlacesOut). t.per_address) table ∙ old.per_address ∙ sym stays.per_address;
       seated = seats_same (get nat_cmp old.seats) (get nat_cmp old.seats) old.table c.retire.new.table s (λ i. refl) (ap (λ (t : PlacesOut). t.places) table) (seats_stay (get nat_cmp old.seats) old.table old.state s stays old.seated);
       room = c.note.ensures.room (room_needed s.connections) ∙ subst (λ (k : ℕ). has_room old.journal k ≡ true) (sym less) old.room;
     }
