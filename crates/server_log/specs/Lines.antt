@@ -20,6 +20,8 @@ use Rattle.fault_hints.specs.declared.voice.Voice.TheVariants.{Plain, Helpful}
 use Rattle.fault_hints.specs.Voices.{detail_of}
 use Rattle.server_words.specs.declared.level.Level.{Level}
 use Rattle.server_words.specs.declared.level.Level.TheVariants.{Quiet, Errors, All}
+use Rattle.server_yard.specs.declared.yard.AdmitFault.{AdmitFault}
+use Rattle.server_yard.specs.declared.yard.AdmitFault.TheVariants as refused
 use Rattle.server_log.specs.Causes.{CauseText}
 use Rattle.server_log.specs.declared.lines.Told.{Told}
 
@@ -188,6 +190,12 @@ memory_text = codes "tcpserver: out of memory\n"
 
 abbrev pub memory_lines : Level → List (List ℕ)
 memory_lines level = error level memory_text
+
+-- why a client at an address was not let in: that no place or no number is left has no line
+abbrev pub refusal_lines : Level → (ip : List ℕ) → AdmitFault → List (List ℕ)
+refusal_lines level ip refused.FullForAddress = full_lines level ip
+refusal_lines level ip refused.OutOfMemory = memory_lines level
+refusal_lines level ip fault = []
 
 -- the warning that rules by name decide nobody: under `All` alone
 abbrev pub no_names_text : List ℕ

@@ -1,12 +1,10 @@
 //! The log of a server: which lines an event has, and when they are written.
 ghost use Rattle.std.specs.Prelude.{◌≡◌, ◌≢◌, ◌↔◌, Err, IfErr, IfOk, IsTrue, List, OnErr, OnOk, is_ok, length, ℕ};
-ghost use Rattle.std.specs.Io.{WritesAtMost};
-ghost use Rattle.std.specs.Io.KnownBytes.{Keeps, WriteAppends};
-ghost use Rattle.server_log.specs.Lines.{event_lines, full_lines, listening_text, memory_lines, no_names_lines, person, status_lines};
+ghost use Rattle.server_log.specs.Lines.{event_lines, full_lines, listening_text, memory_lines, no_names_lines, person, refusal_lines, status_lines};
 ghost use Rattle.server_log.specs.Logs.{Holds, IsLater, KeepsSettings, Logged, Takes, TellsInOrder, held, last_of, level_of, limit_of, voice_of, writer_of};
 ghost use Rattle.server_log.specs.Pieces.{line_of, told_lines};
 ghost use Rattle.server_yard.specs.Evidence.{asked_event, made_at};
-ghost use Rattle.server_yard.specs.Yards.{yard_server};
+ghost use Rattle.server_yard.specs.Yards.{yard_books, yard_server};
 
 use crate::fault::LogFault;
 use crate::lines::{Lines, Settings, Shown, Told, status_line};
@@ -15,9 +13,8 @@ use crate::pieces::Piece::{Address, Number, Text};
 use byte_streams::write_out;
 use fault_hints::Voice;
 use server_words::Level;
-use server_yard::{Made, OutOfTurn, Places, Yard};
+use server_yard::{AdmitFault, Made, OutOfTurn, Places, Yard};
 use std::alloc::Global;
-use std::io;
 use std::io::Write;
 
 /// The log of a server: it writes the lines of the events that it is told.
@@ -35,7 +32,7 @@ pub struct Log<W> {
     lines: Lines,
 }
 
-/// What a yard answered of an event that it was asked for. If it made the event, a log was told of it, as it was. Only
+/// What a yard answered of an event that it was asked for. If it made the event, a log has taken it, as it was. Only
 /// `Log::report` makes one.
 #[derive(Drop)]
 pub struct Reported {
@@ -104,6 +101,7 @@ impl<W: Write> Log<W> {
         told: Told<'_>,
     ) -> Reported
         requires its { Tells told (asked_event answer) }
+        requires just { IfOk answer (λ made. made_at made ≡ (yard_books yard.now).count) }
         ensures answer { reported_answer result ≡ answer }
         ensures order { IfOk answer (λ made.
             TellsInOrder (last_of self.old) (made_at made) (last_of self.new) (reported_lines result)) }
@@ -158,8 +156,22 @@ impl<W: Write> Log<W> {
         self.tell_line(Shown::Person, &line)
     }
 
-    /// Tells that a connection was refused, since as many of its address are alive as may be.
-    pub fn address_full(&mut self, ip: [u8; 4]) -> Result<(), LogFault>
+    /// Tells why a client at this address was not let in, if that has a line.
+    pub fn refused(&mut self, ip: [u8; 4], fault: AdmitFault) -> Result<(), LogFault>
+        ensures lines { Logged (refusal_lines (level_of self.old) ip fault)
+            (held W.contents self.old) (held W.contents self.new) result }
+        ensures same { KeepsSettings self.old self.new }
+        ensures no_event { last_of self.new ≡ last_of self.old }
+    {
+        match fault {
+            AdmitFault::FullForAddress => self.address_full(ip),
+            AdmitFault::OutOfMemory => self.out_of_memory(),
+            AdmitFault::Full | AdmitFault::Spent(_) => Ok(()),
+        }
+    }
+
+    // Tells that a connection was refused, since as many of its address are alive as may be.
+    fn address_full(&mut self, ip: [u8; 4]) -> Result<(), LogFault>
         ensures lines { Logged (full_lines (level_of self.old) ip)
             (held W.contents self.old) (held W.contents self.new) result }
         ensures same { KeepsSettings self.old self.new }
@@ -250,27 +262,5 @@ fn write_text<W: Write>(bytes: &[u8], writer: &mut W) -> Result<(), LogFault>
     match write_out(bytes, writer, &mut 0) {
         Ok(()) => Ok(()),
         Err(_) => Err(LogFault::WriteFault),
-    }
-}
-
-impl<W: Write> Write for Log<W> {
-    ghost contents = { held W.contents };
-
-    /// Passes bytes on as they are, at every level.
-    fn write(&mut self, buf: &[u8]) -> io::Result<usize>
-        ensures bound { WritesAtMost result buf.now }
-        ensures bytes { WriteAppends (held W.contents self.old) (held W.contents self.new) result buf.now }
-        ensures same { KeepsSettings self.old self.new }
-        ensures no_event { last_of self.new ≡ last_of self.old }
-    {
-        self.writer.write(buf)
-    }
-
-    fn flush(&mut self) -> io::Result<()>
-        ensures bytes { Keeps (held W.contents self.old) (held W.contents self.new) }
-        ensures same { KeepsSettings self.old self.new }
-        ensures no_event { last_of self.new ≡ last_of self.old }
-    {
-        self.writer.flush()
     }
 }

@@ -1,6 +1,6 @@
 //! The door: the value under whose lock connections are accepted and let in.
 ghost use Rattle.std.specs.Option.{ForSome};
-ghost use Rattle.std.specs.Prelude.{◌≡◌, ◌≢◌, ◌↔◌, ◌+◌, ◌^◌, ◌<◌, ◌≤◌, None, Some, false, IfSome, min, pos};
+ghost use Rattle.std.specs.Prelude.{◌≡◌, ◌≢◌, ◌⊎◌, ◌↔◌, ◌+◌, ◌^◌, ◌<◌, ◌≤◌, None, Some, false, true, IfSome, min, pos};
 ghost use Rattle.tcp_connections.specs.Admissions.{let_in_by};
 ghost use Rattle.tcp_connections.specs.declared.serving.ServeEnd.TheVariants.{AcceptFaults, Count, Exhausted};
 
@@ -90,6 +90,7 @@ impl<A: Acceptor<Came = V::Came> + Drop, V: Serving> Door<A, V> {
     pub fn is_over(&self) -> bool
         ensures open { result ≡ false → self.now.end ≡ None }
         ensures more { result ≡ false → self.now.left ≢ Some 0 }
+        ensures over { result ≡ true → (self.now.end ≢ None) ⊎ (self.now.left ≡ Some 0) }
     {
         self.end.is_some() || self.left == Some(0)
     }

@@ -1,5 +1,5 @@
 //! What lets connections in and serves them.
-ghost use Rattle.std.specs.Prelude.{◌≡◌, ℕ, Bool, Option, IfOk};
+ghost use Rattle.std.specs.Prelude.{ℕ, Option, IfOk};
 ghost use Rattle.tcp_connections.specs.Admissions.{LetsIn};
 
 use crate::entrance::Entrance;
@@ -49,9 +49,6 @@ pub trait Serving {
     /// How many are let in at most, if there is such a number.
     ghost count: { Option ℕ };
 
-    /// Whether a connection that is over was retired.
-    ghost retired: { Self.Over → Bool };
-
     /// Lets a connection in, and counts it.
     ///
     /// # Errors
@@ -74,6 +71,5 @@ pub trait Serving {
     fn finish(&self, alive: Self::Alive) -> Self::Over;
 
     /// Whether a connection that is over was retired: its place is never free again.
-    fn is_retired(&self, over: &Self::Over) -> bool
-        ensures { result ≡ retired over.now };
+    fn is_retired(&self, over: &Self::Over) -> bool;
 }

@@ -1,17 +1,18 @@
 -- How the life of a connection begins, and what was told last of it.
-use Rattle.std.specs.Prelude.{◌≡◌, ◌⊎◌, ℕ, Bool, true, false, Some, Result, IfOk}
+use Rattle.std.specs.Prelude.{◌≡◌, ◌⊎◌, ℕ, Bool, true, false, Some, is_ok}
 use Rattle.child_jobs.specs.declared.outcome.Status.{Status}
 use Rattle.rule_lookup.specs.Peers.{Client}
 use Rattle.server_events.specs.declared.event.Event.{Event}
 use Rattle.server_events.specs.declared.event.Event.TheVariants.{Admitted, Ended, Retired}
 use Rattle.server_yard.specs.Seating.{leaver}
 use Rattle.tcp_connections.specs.Rounds.{AllFail, EndsAs, FailsToWait, Kills, OneEnds, rounds}
-use Rattle.server_log.specs.Reports.{reported_event}
+use Rattle.server_log.specs.Reports.{reported_answer, reported_event}
 use Rattle.server_log.specs.declared.log.Reported.{Reported}
 
--- where a client is let in, the event that was made is the admission of it, by the serial that it has
-abbrev pub AdmitsOwn : {P E : Type 0} → Result (ℕ × P × Reported) E → Client → Type 0
-AdmitsOwn answer client = IfOk answer (λ r. reported_event r.2 ≡ Admitted r.0 client)
+-- the admission of a client with a serial was made
+pub record IsAdmitted (serial : ℕ) (client : Client) (admitted : Reported) : Type 0 where
+  pub made : is_ok (reported_answer admitted) ≡ true
+  pub its : reported_event admitted ≡ Admitted serial client
 
 -- this event ends the connection with a serial: it goes, or is retired
 abbrev pub IsEndOf : Event → (serial : ℕ) → Type 0

@@ -1,7 +1,7 @@
 //! A connection from its admission until its program is started.
 //!
-//! Only this module has the connection itself. It writes the banner to it once, before all else, and nothing more. So
-//! no connection is decided, or its program started, before its client was greeted.
+//! From then on only this module has the connection itself. It writes the banner to it once, before all else, and
+//! nothing more. So no connection is decided, or its program started, before its client was greeted.
 ghost use Rattle.std.specs.Prelude.{◌≡◌, ◌≢◌, [], IfErr, IfOk, IsTrue};
 ghost use Rattle.child_jobs.specs.Runs.{job_of, place_of};
 

@@ -9,7 +9,7 @@
 //! stands behind the job of its program. Tested only: no event comes out of turn.
 #![tactic(auto)]
 
-pub mod entrance;
+pub mod alive;
 pub mod guest;
 pub mod host;
 mod judging;

@@ -1,44 +1,39 @@
-//! How a server's connections are served: by the calls that `Workers` makes for each. A connection that was let in, and
-//! one whose program runs, are values that can't be let go.
-ghost use Rattle.std.specs.Prelude.{◌≡◌, IfOk, IfErr, Some};
+//! How a server's connections are let in and served: by the calls that `Workers` makes for each. A connection that was
+//! let in, and one whose program runs, are values that can't be let go.
+ghost use Rattle.std.specs.Prelude.{◌≡◌, IfErr, IfOk, IfSome, Some};
 ghost use Rattle.child_jobs.specs.Runs.{job_of, place_of};
 ghost use Rattle.rule_lookup.specs.declared.instr.Verdict.TheVariants.{Allow};
 ghost use Rattle.server_events.specs.declared.event.Event.TheVariants as event;
-ghost use Rattle.server_log.specs.Reports.{reported_event};
+ghost use Rattle.tcp_connections.specs.Admissions.{LetsIn};
+ghost use Rattle.tcp_connections.specs.Names.{client_at, local_at};
 ghost use Rattle.tcp_service.specs.Accepting.{IsAccepted};
-ghost use Rattle.tcp_service.specs.Ends.{begun_decided, begun_last, noted_event, over_decided, over_end};
-ghost use Rattle.tcp_service.specs.Greetings.{RefusesGreeted, greeted_connection, greeted_identity, guest_connection, guest_identity};
-ghost use Rattle.tcp_service.specs.Lives.{IsEndOfChild};
+ghost use Rattle.tcp_service.specs.Ends.{over_decided, over_end};
+ghost use Rattle.tcp_service.specs.Greetings.{RefusesGreeted, guest_connection, guest_identity};
+ghost use Rattle.tcp_service.specs.Lives.{IsAdmitted, IsEndOfChild, retires};
 ghost use Rattle.tcp_service.specs.Openings.{IsFoundFor};
-ghost use Rattle.tcp_service.specs.Servings.{EndsFor, FailsToStart, IsChild, IsDecided, IsDecidedChild, MayStart};
+ghost use Rattle.tcp_service.specs.Servings.{EndsFor, IsDecidedChild};
 
-use crate::entrance::{admit, ends_of};
-use crate::guest::{Greeted, Guest, Identity};
-use crate::host::Host;
+use crate::alive::Alive;
+use crate::guest::{Guest, Identity};
+use crate::host::{Host, ServiceGround};
 use crate::judging::Judged;
-use crate::server::Server;
-use crate::telling::{Begun, Over};
-use child_jobs::{Place, Running};
-use rule_lookup::Verdict;
-use server_log::Reported;
-use server_yard::NoNumbers;
+use crate::server::{Context, Server};
+use crate::telling::Over;
+use child_jobs::{Local, Place};
+use rule_lookup::{Peer, Verdict};
+use server_log::{Reported, Told};
+use server_yard::{AdmitFault, NoNumbers};
+use std::alloc::Global;
 use std::snapshot::Snapshot;
-use tcp_connections::{Accepted, Entrance, Refused, Serving, wait_in_rounds};
+use tcp_connections::{Accepted, Entrance, HostNames, Refused, Serving, wait_in_rounds};
 
 /// A connection that was let in and whose program was not started yet: the right to what comes next. It is made of what
-/// its admission gave, whose event was of its serial number and its client (`own`).
+/// its admission gave: that was made for its serial number and its client (`own`).
 pub struct Admitted<H: Host> {
     pub(crate) guest: Guest<H::Connection>,
     pub(crate) place: Place<H::Places>,
     pub(crate) admitted: Snapshot<Reported>,
-    pub(crate) ghost own: { reported_event admitted.value
-        ≡ event.Admitted (guest_identity guest).serial (guest_identity guest).peer },
-}
-
-/// A connection whose program runs: the right to its end. Only `run` makes one. One thread may give it to another.
-pub struct Alive<H: Host> {
-    pub(crate) serial: u64,
-    pub(crate) running: Running<H::Places, H::Job>,
+    pub(crate) ghost own: { ∥ IsAdmitted (guest_identity guest).serial (guest_identity guest).peer admitted.value ∥₁ },
 }
 
 impl<H> Serving for Server<'_, H>
@@ -67,8 +62,6 @@ where
         IsAccepted server.context.names.now admitted.guest came };
 
     ghost count = { H.Places.admissions };
-
-    ghost retired = { λ over. over.is_retired };
 
     /// A connection gets the names of its ends, and is counted.
     fn admit(
@@ -177,62 +170,56 @@ where
         ensures ended { IsEndOfChild H.Job.killed H.Job.refused_wait H.Job.ended (job_of alive.running)
             (over_end result) alive.serial }
     {
-        let Alive { serial, running } = alive;
+        let (serial, running) = alive.into_parts();
         self.context.ended(serial, wait_in_rounds(running))
     }
 
-    fn is_retired(&self, over: &Over) -> bool {
+    fn is_retired(&self, over: &Over) -> bool
+        ensures { result ≡ retires (over_end over.now) }
+    {
         over.is_retired
     }
 }
 
-impl<H: Host> Server<'_, H> {
-    /// Starts the program of a connection that was allowed.
-    ///
-    /// # Errors
-    /// It could not be started. The connection is over.
-    pub(crate) fn run(
-        &self,
-        greeted: Greeted<'_, H::Connection>,
-        place: Place<H::Places>,
-        judged: Judged,
-    ) -> Result<(Alive<H>, Begun), Over>
-        requires may { MayStart (IsFoundFor (H.Rules.gives self.now.context.rules.now) H.Handle.opened H.Places.missing)
-            H.File.honest H.File.sound (greeted_identity greeted) self.now.context.plan.now
-            (H.Connection.may (greeted_connection greeted)) }
-        requires allowed { IsDecided
-            (IsFoundFor (H.Rules.gives self.now.context.rules.now) H.Handle.opened H.Places.missing)
-            H.File.honest H.File.sound (greeted_identity greeted) self.now.context.plan.now
-            (noted_event judged.noted) Allow judged.environment }
-        ensures own { IfOk result (λ r. r.0.serial ≡ (greeted_identity greeted.entry).serial) }
-        ensures place { IfOk result (λ r. place_of r.0.running ≡ place) }
-        ensures told { IfOk result (λ r. begun_last r.1 ≡ event.Started (greeted_identity greeted.entry).serial) }
-        ensures child { IfOk result (λ r. IsChild
-            (IsFoundFor (H.Rules.gives self.now.context.rules.now) H.Handle.opened H.Places.missing)
-            H.File.honest H.File.sound (greeted_identity greeted.entry) self.now.context.plan.now (begun_decided r.1)
-            (H.Job.program (job_of r.0.running)) (H.Job.environment (job_of r.0.running))) }
-        ensures over { IfErr result (λ over. over.serial ≡ (greeted_identity greeted.entry).serial) }
-        ensures reason { IfErr result (λ over. FailsToStart
-            (IsFoundFor (H.Rules.gives self.now.context.rules.now) H.Handle.opened H.Places.missing)
-            H.File.honest H.File.sound (greeted_identity greeted.entry) self.now.context.plan.now
-            (H.Connection.refuses (greeted_connection greeted.entry)) (noted_event judged.noted) (over_end over)) }
-        ensures noted { IfErr result (λ over. over_decided over ≡ Some (noted_event judged.noted)) }
-    {
-        let Judged {
-            noted,
-            verdict: _,
-            environment,
-        } = judged;
-        let (context, serial) = (&self.context, greeted.identity.serial);
-        let program = context.plan.program();
-        let started = greeted.start(context.alloc, place, program, &environment);
-        drop(environment);
-        match started {
-            Ok(running) => {
-                let begun = context.started(noted, serial, &running);
-                Ok((Alive { serial, running }, begun))
+// The two ends of a connection that came, with their names, if there is memory for them.
+fn ends_of<X>(alloc: Global, names: &HostNames, came: &Accepted<X>) -> Option<(Peer, Local)>
+    ensures client { IfSome result (λ ends. ends.0 ≡ client_at names.now came.now.ip came.now.port) }
+    ensures end { IfSome result (λ ends. ends.1 ≡ local_at names.now came.now.local.ip came.now.local.port) }
+{
+    let peer = names.peer(alloc, came.ip, came.port).ok()?;
+    let local = names.local(alloc, came.local.ip(), came.local.port()).ok()?;
+    Some((peer, local))
+}
+
+// Of a connection that was let in: its serial, its place, and the report of its admission.
+type Admission<L> = (u64, Place<L>, Reported);
+
+// Lets a connection in, and counts it. It gives a serial and a place. The log is told of it, or why it was refused, if
+// that has a line. Then nobody was let in.
+fn admit<G: ServiceGround>(
+    context: &Context<'_, G>,
+    entrance: &mut Entrance,
+    peer: &Peer,
+) -> Result<Admission<G::Places>, Refused<NoNumbers>>
+    ensures came { LetsIn result entrance.old entrance.new }
+    ensures own { IfOk result (λ r. IsAdmitted r.0 peer.now r.2) }
+{
+    let mut yard = context.yard.lock(context.rt);
+    match yard.admit(peer) {
+        Ok((serial, place, made)) => {
+            let ip = peer.ip();
+            let admitted = context.report(&yard, Ok(made), Told::Admitted { serial, ip });
+            drop(yard);
+            entrance.let_one_in();
+            Ok((serial, place, admitted))
+        }
+        Err(fault) => {
+            let _ = context.log.lock(context.rt).refused(peer.ip(), fault);
+            drop(yard);
+            match fault {
+                AdmitFault::Spent(no_numbers) => Err(Refused::Spent(no_numbers)),
+                _ => Err(Refused::Once),
             }
-            Err((place, refusal)) => Err(context.start_failed(noted, serial, place, refusal)),
         }
     }
 }

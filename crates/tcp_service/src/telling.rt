@@ -5,9 +5,10 @@ ghost use Rattle.std.specs.Prelude.{◌≡◌, ◌≢◌, IfErr, IfOk, None, OnE
 ghost use Rattle.child_jobs.specs.declared.outcome.DropCause.TheVariants.{Banner, Denied, Directory};
 ghost use Rattle.server_events.specs.declared.event.Event.TheVariants as event;
 ghost use Rattle.server_log.specs.Reports.{Tells, reported_answer, reported_event};
-ghost use Rattle.server_yard.specs.Evidence.{asked_event};
+ghost use Rattle.server_yard.specs.Evidence.{asked_event, made_at};
 ghost use Rattle.server_yard.specs.Passes.{pass_serial};
 ghost use Rattle.server_yard.specs.Seating.{leaver};
+ghost use Rattle.server_yard.specs.Yards.{yard_books};
 ghost use Rattle.tcp_service.specs.Lives.{IsEndOf, retires};
 ghost use Rattle.tcp_service.specs.Openings.{Decides, opening_of};
 
@@ -22,21 +23,22 @@ use server_log::{Cause, Reported, Told};
 use server_yard::{Made, OutOfTurn, Pass, Yard};
 use std::snapshot::Snapshot;
 
-/// The evidence that a connection's decision was noted. The language lets nobody drop it: it goes into what
-/// becomes of the connection.
+/// The evidence that a connection's decision was noted. The language lets nobody drop it: what becomes of the
+/// connection spends it.
 pub(crate) struct Noted {
     decision: Reported,
     ghost made: { is_ok (reported_answer decision) ≡ true },
 }
 
-/// What was noted of a connection whose program runs: its decision, and that it runs. Only `started` makes one.
+/// What was told of a connection whose program runs: its decision, which was noted, and its start. Only `started` makes
+/// one.
 #[derive(Drop)]
 pub(crate) struct Begun {
     decided: Snapshot<Reported>,
     last: Snapshot<Reported>,
 }
 
-/// That a connection is over: the last that was told of it is its end. Only its end makes one.
+/// That a connection is over: its yard was asked for its end. Only that makes one.
 #[derive(Drop)]
 pub struct Over {
     serial: u64,
@@ -79,7 +81,7 @@ impl<G: ServiceGround> Context<'_, G> {
     ghost use Rattle.tcp_service.specs.Ends.{begun_decided, begun_last, noted_event, over_decided, over_end};
     ghost use Rattle.tcp_service.specs.Greetings.{cut_identity, cut_with, greeted_identity, greeted_with};
 
-    /// Tells the log what this yard, which is still locked, has just answered of an event.
+    /// Tells the log what this yard has just answered of an event. Nothing else happened there since.
     pub(crate) fn report(
         &self,
         yard: &Yard<G::Places>,
@@ -87,6 +89,7 @@ impl<G: ServiceGround> Context<'_, G> {
         told: Told<'_>,
     ) -> Reported
         requires its { Tells told (asked_event answer) }
+        requires just { IfOk answer (λ made. made_at made ≡ (yard_books yard.now).count) }
         ensures same { reported_answer result ≡ answer }
     {
         self.log.lock(self.rt).report(yard, answer, told)
@@ -96,7 +99,7 @@ impl<G: ServiceGround> Context<'_, G> {
     ///
     /// # Errors
     /// It may not be decided now, which counts as a fault of the directory.
-    #[tactic(auto, using(crate::proofs::Asked::asked_for, crate::proofs::Asked::told_as))]
+    #[tactic(auto, using(crate::proofs::Asked::asked_for, crate::proofs::Asked::told_as, crate::proofs::Asked::just_made))]
     pub(crate) fn decided(
         &self,
         pass: &Pass<G::Places, G::File>,
@@ -129,7 +132,7 @@ impl<G: ServiceGround> Context<'_, G> {
     }
 
     /// The program of the connection with this serial number runs.
-    #[tactic(auto, using(crate::proofs::Asked::asked_for, crate::proofs::Asked::told_as))]
+    #[tactic(auto, using(crate::proofs::Asked::asked_for, crate::proofs::Asked::told_as, crate::proofs::Asked::just_made))]
     pub(crate) fn started<C: Job>(
         &self,
         noted: Noted,
@@ -247,7 +250,7 @@ impl<G: ServiceGround> Context<'_, G> {
     }
 
     // It has gone by this event, and its place is given back.
-    #[tactic(auto, using(crate::proofs::Asked::asked_for, crate::proofs::Asked::told_as))]
+    #[tactic(auto, using(crate::proofs::Asked::asked_for, crate::proofs::Asked::told_as, crate::proofs::Asked::just_made))]
     fn gone(&self, serial: u64, place: Place<G::Places>, event: Event, told: Told<'_>) -> Reported
         requires goes { leaver event ≡ Some serial }
         requires its { Tells told event }
@@ -261,7 +264,7 @@ impl<G: ServiceGround> Context<'_, G> {
     }
 
     /// Its program ended so, and its place is given back; or the program could not be waited for.
-    #[tactic(auto, using(crate::proofs::Asked::asked_for, crate::proofs::Asked::told_as))]
+    #[tactic(auto, using(crate::proofs::Asked::asked_for, crate::proofs::Asked::told_as, crate::proofs::Asked::just_made))]
     pub(crate) fn ended<C: Job>(
         &self,
         serial: u64,

@@ -6,6 +6,7 @@ use Rattle.server_log.specs.declared.log.Log.{Log}
 use Rattle.server_parts.specs.Asked.{IsAskedPlan}
 use Rattle.server_parts.specs.Services.{AreNamesOf, IsSupplyIn}
 use Rattle.server_words.specs.Plans.{ServerPlan}
+use Rattle.server_words.specs.declared.server_options.ConnectionLimits.{ConnectionLimits}
 use Rattle.tcp_streams.specs.Asked.{IsAskedPassing, acceptor_starter, accepts_at_once, accepts_from, passing_of}
 use Rattle.tcp_streams.specs.declared.sockets.SocketAcceptor.{SocketAcceptor}
 use Rattle.ucspi.specs.declared.serving.ServerParts.{ServerParts}
@@ -34,5 +35,5 @@ pub record AcceptsAsAsked {R T E : Type 0} (listens : T → List ℕ → ℕ →
   pub passes : IsAskedPassing words (passing_of (acceptor_starter acceptor))
 
 -- as many connections are let in at once as `-c` says, and as many from one address as `-m` says
-abbrev pub AreAskedLimits : ServerPlan → (limit per_address : ℕ) → Type 0
-AreAskedLimits words limit per_address = (limit ≡ words.limits.connections) × (per_address ≡ words.limits.per_address)
+abbrev pub AreLimits : ConnectionLimits → (limit per_address : ℕ) → Type 0
+AreLimits limits limit per_address = (limit ≡ limits.connections) × (per_address ≡ limits.per_address)

@@ -1,7 +1,6 @@
 //! How the tool ends, by how its server did.
 ghost use Rattle.std.specs.Prelude.{◌≡◌, Ok, Err, IfErr, OnOk};
 ghost use Rattle.ucspi.specs.Ends.{told_of};
-ghost use Rattle.server_yard.specs.Yards.{HasRun};
 
 use crate::serving::AtEnd;
 use server_parts::{ServerFailure, ServerFault};
@@ -23,10 +22,8 @@ pub(crate) struct Last {
     pub is_retired: bool,
 }
 
-// How the tool ends, by how its server did, what its yard was then, and the system's last fault of accepting. The
-// events of its yard were a run.
+// How the tool ends, by how its server did, what its yard was then, and the system's last fault of accepting.
 pub(crate) fn end_of<L: Places>(served: AtEnd<L>) -> Result<Finished, ServerFailure>
-    ensures ran { HasRun served.yard }
     ensures finished { OnOk result (told_of served.last served.end served.faults.last ≡ Ok tt) }
     ensures closed { IfErr result (λ failure. told_of served.last served.end served.faults.last ≡ Err failure) }
 {

@@ -2,12 +2,13 @@
 //!
 //! This stands in the program's crate because whoever names `Workers::serve_through` loads all proofs behind it.
 ghost use Rattle.std.specs.Option.{ForSome};
-ghost use Rattle.std.specs.Prelude.{◌≡◌, ◌≤◌, Some, false};
+ghost use Rattle.std.specs.Prelude.{◌≡◌, ◌≤◌, IsTrue, Some, false};
 ghost use Rattle.server_yard.specs.Yards.{HasRun, yard_books, yard_server};
 ghost use Rattle.tcp_connections.specs.Admissions.{FailedToAccept, suffices};
 ghost use Rattle.tcp_connections.specs.declared.serving.ServeEnd.TheVariants.{AcceptFaults, Count};
 ghost use Rattle.tcp_service.specs.Openings.{IsFoundFor};
 ghost use Rattle.tcp_service.specs.Servings.{MayStartEach};
+ghost use Rattle.ucspi.specs.Asked.{AreLimits};
 ghost use Rattle.ucspi.specs.Ends.{last_of};
 
 use crate::ends::{Finished, Last, end_of};
@@ -65,6 +66,7 @@ pub(crate) struct AtEnd<L: Places> {
     pub ghost seen: { last ≡ last_of let_in (yard_books yard) (yard_server yard) },
     pub ghost by_count: { end ≡ Count → L.admissions ≡ Some let_in },
     pub ghost most: { ForSome L.admissions (λ most. let_in ≤ most) },
+    pub ghost reached: { IsTrue (suffices supply) → L.admissions ≡ Some let_in → end ≡ Count },
     pub ghost by_faults: { end ≡ AcceptFaults → ∥ FailedToAccept (suffices supply) faults.count ∥₁ },
     // its events are a run of a server
     pub ghost ran: { HasRun yard },
@@ -100,6 +102,7 @@ where
     H::Job: Send,
     A: Acceptor<Came = Accepted<H::Connection>> + Send + Drop,
     requires new { (yard_books yard).count ≡ 0 }
+    requires limits { AreLimits parts.now.limits (yard_server yard).limit (yard_server yard).per_address }
     requires serves { H.Places.installs ≡ false }
     requires count { H.Places.admissions ≡ parts.now.limits.count }
     requires missing { missing ≡ H.Places.missing }
@@ -148,6 +151,7 @@ fn at_end<L: Places>(
     requires faults { end ≡ AcceptFaults → FailedToAccept (suffices supply) faults.count }
     requires count { end ≡ Count → L.admissions ≡ Some let_in }
     requires most { ForSome L.admissions (λ most. let_in ≤ most) }
+    requires reached { IsTrue (suffices supply) → L.admissions ≡ Some let_in → end ≡ Count }
     ensures end { result.end ≡ end }
     ensures faults { result.faults ≡ faults }
 {

@@ -4,7 +4,7 @@ ghost use Rattle.fault_hints.specs.Voices.{mode_by_name};
 ghost use Rattle.server_parts.specs.Asked.{FailsNames};
 ghost use Rattle.server_parts.specs.RulesPaths.{AreRulesOf, rules_missing};
 ghost use Rattle.server_parts.specs.declared.fault.ServerFault.TheVariants.{CannotListen, OutOfMemory, WriteFault};
-ghost use Rattle.ucspi.specs.Asked.{AcceptsAsAsked, AreAsked, AreAskedLimits, IsAskedLog};
+ghost use Rattle.ucspi.specs.Asked.{AcceptsAsAsked, AreAsked, AreLimits, IsAskedLog};
 ghost use Rattle.ucspi.specs.Words.{AnswersWords};
 ghost use Rattle.server_words.specs.Operands.{texts};
 ghost use Rattle.server_words.specs.Plans.{plan_of as plan_by_words};
@@ -264,7 +264,7 @@ fn yard_of<L: Places>(
     requires places { (places.name ≡ L.name) × (places.parts ≡ L.parts)
         × (places.parts ≡ words.now.limits.connections) }
     ensures limits { IfOk result (λ yard.
-        AreAskedLimits words.now (yard_server yard).limit (yard_server yard).per_address) }
+        AreLimits words.now.limits (yard_server yard).limit (yard_server yard).per_address) }
     ensures new { IfOk result (λ yard. (yard_books yard).count ≡ 0) }
     ensures refused { IfErr result (λ fault. fault ≡ OutOfMemory) }
 {
