@@ -166,7 +166,7 @@ impl<W: Write> Log<W> {
         match fault {
             AdmitFault::FullForAddress => self.address_full(ip),
             AdmitFault::OutOfMemory => self.out_of_memory(),
-            AdmitFault::Full | AdmitFault::Spent(_) => Ok(()),
+            AdmitFault::Full | AdmitFault::Spent => Ok(()),
         }
     }
 

@@ -7,7 +7,6 @@ use Rattle.server_yard.specs.Rooms.{KeepsRoom}
 use Rattle.server_yard.specs.Seating.{IsAddressFull, IsSpent, KeepsSeats}
 use Rattle.server_yard.specs.Yards.{IsSameBeside, yard_roll, yard_seat}
 use Rattle.server_yard.specs.declared.evidence.Made.{Made}
-use Rattle.server_yard.specs.declared.evidence.NoNumbers.{NoNumbers}
 use Rattle.server_yard.specs.declared.evidence.OutOfTurn.{OutOfTurn}
 use Rattle.server_yard.specs.declared.yard.AdmitFault.{AdmitFault}
 use Rattle.server_yard.specs.declared.yard.AdmitFault.TheVariants.{Full, FullForAddress, OutOfMemory, Spent}
@@ -61,18 +60,10 @@ pub record Makes {L : Type 0} {p : _} (event : Event) (answer : Result Made OutO
   pub same : IsSameBeside old new
   pub seats : KeepsSeats (yard_seat old) (yard_seat new)
 
--- that no number is left
-abbrev pub no_numbers : NoNumbers
-no_numbers = record { seal = tt }
-
--- after so many events, the last number of an event is given, or that of a connection
-abbrev pub LacksNumbers : (events : ℕ) → ServerState → Type 0
-LacksNumbers events server = (events ≡ 2 ^ 64 - 1) ⊎ IsSpent server
-
--- after so many events, a server that is so lets no client from this address in, for this reason: it lacks numbers; or
--- it does not, and there is no place; memory may be short at any time
+-- After so many events, a server that is so lets no client from this address in, for this reason: the last number of an
+-- event is given, or that of a connection; or it is not, and there is no place. Memory may be short at any time.
 abbrev pub Refuses : AdmitFault → (ip : List ℕ) → (events : ℕ) → ServerState → Type 0
-Refuses (Spent evidence) ip events server = LacksNumbers events server
+Refuses Spent ip events server = (events ≡ 2 ^ 64 - 1) ⊎ IsSpent server
 Refuses Full ip events server = (events ≢ 2 ^ 64 - 1) × (length server.connections ≡ server.limit)
 Refuses FullForAddress ip events server = (events ≢ 2 ^ 64 - 1) × IsAddressFull ip server
 Refuses OutOfMemory ip events server = ⊤

@@ -67,22 +67,3 @@ impl OutOfTurn {
         OutOfTurn { event: refused }
     }
 }
-
-/// Evidence that no number is left for a connection or an event, so that nobody can be let in any more. Only a yard
-/// that is so makes one.
-#[derive(Clone, Copy)]
-pub struct NoNumbers {
-    seal: (),
-}
-
-impl NoNumbers {
-    ghost use Rattle.server_yard.specs.Evidence.{LacksNumbers};
-    ghost use Rattle.server_yard.specs.Yards.{yard_books, yard_server};
-
-    // That this yard has none left.
-    pub(crate) fn of<L: Places>(_yard: &Yard<L>) -> NoNumbers
-        requires lacks { LacksNumbers (yard_books _yard.now).count (yard_server _yard.now) }
-    {
-        NoNumbers { seal: () }
-    }
-}

@@ -14,7 +14,7 @@ pub mod pass;
 pub mod places;
 pub mod yard;
 
-pub use evidence::{Made, NoNumbers, OutOfTurn};
+pub use evidence::{Made, OutOfTurn};
 pub use pass::Pass;
 pub use places::Places;
 pub use yard::{AdmitFault, Yard};

@@ -16,7 +16,7 @@ ghost use Rattle.server_yard.specs.Runs.{HasRunTo, IsRun};
 ghost use Rattle.server_yard.specs.Seating.{GivesSeat, HasSeats, KeepsSeats, KeepsSerials, LosesOne, goes_on, leaver};
 ghost use Rattle.server_yard.specs.declared.yard.AdmitFault.TheVariants.{Full, FullForAddress, OutOfMemory, Spent};
 
-use crate::evidence::{Made, NoNumbers, OutOfTurn};
+use crate::evidence::{Made, OutOfTurn};
 use crate::pass::Pass;
 use crate::places::Places;
 use cdb_files::CdbFile;
@@ -36,7 +36,7 @@ pub enum AdmitFault {
     /// As many connections are alive as may be, retired ones counted.
     Full,
     /// The last number of an event, or the last serial, was given: 2^64 - 1.
-    Spent(NoNumbers),
+    Spent,
     /// As many connections of its address are alive as may be, retired ones counted.
     FullForAddress,
     /// There was no memory.
@@ -89,7 +89,7 @@ impl<L: Places> Drop for Yard<L> {
 }
 
 impl<L: Places> Yard<L> {
-    ghost use Rattle.server_yard.specs.Evidence.{IsNoted, Makes, Refuses, evidence_of, no_numbers};
+    ghost use Rattle.server_yard.specs.Evidence.{IsNoted, Makes, Refuses, evidence_of};
     ghost use Rattle.server_yard.specs.Yards.{HasRun, IsInTurn, IsMade, IsSameBeside, MayBeDecided, yard_books, yard_journal, yard_roll, yard_seat, yard_server};
 
     /// A yard without connections.
@@ -195,8 +195,8 @@ impl<L: Places> Yard<L> {
     /// otherwise `Full` if as many are alive as may be, or `FullForAddress` if as many from its address are; otherwise
     /// `OutOfMemory`. Nothing changed.
     pub fn admit(&mut self, peer: &Peer) -> Result<(u64, Place<L>, Made), AdmitFault>
-        ensures spent { (result ≡ Err (Spent no_numbers)) ↔ Refuses
-            (Spent no_numbers) peer.now.ip (yard_books self.old).count (yard_server self.old) }
+        ensures spent { (result ≡ Err Spent) ↔ Refuses
+            Spent peer.now.ip (yard_books self.old).count (yard_server self.old) }
         ensures full { (result ≡ Err Full) ↔ Refuses
             Full peer.now.ip (yard_books self.old).count (yard_server self.old) }
         ensures full_for_address { (result ≡ Err FullForAddress) ↔ Refuses
@@ -220,8 +220,8 @@ impl<L: Places> Yard<L> {
 
     // The serial of a connection, if it may be let in.
     fn next_serial(&self, peer: &Peer) -> Result<u64, AdmitFault>
-        ensures spent { (result ≡ Err (Spent no_numbers)) ↔ Refuses
-            (Spent no_numbers) peer.now.ip (yard_books self.now).count (yard_server self.now) }
+        ensures spent { (result ≡ Err Spent) ↔ Refuses
+            Spent peer.now.ip (yard_books self.now).count (yard_server self.now) }
         ensures full { (result ≡ Err Full) ↔ Refuses
             Full peer.now.ip (yard_books self.now).count (yard_server self.now) }
         ensures full_for_address { (result ≡ Err FullForAddress) ↔ Refuses
@@ -231,13 +231,13 @@ impl<L: Places> Yard<L> {
         ensures may { IfOk result (λ serial. may_admit (yard_server self.now) serial peer.now ≡ true) }
     {
         if self.journal.events() == u64::MAX {
-            return Err(AdmitFault::Spent(NoNumbers::of(self)));
+            return Err(AdmitFault::Spent);
         }
         if self.table.live() == self.table.limit() {
             return Err(AdmitFault::Full);
         }
         let Some(serial) = self.state.last().checked_add(1) else {
-            return Err(AdmitFault::Spent(NoNumbers::of(self)));
+            return Err(AdmitFault::Spent);
         };
         if self.state.live_from(peer.ip()) == self.state.address_limit() {
             return Err(AdmitFault::FullForAddress);

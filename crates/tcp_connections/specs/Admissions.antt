@@ -1,20 +1,11 @@
 -- How many connections were let in, and when a server ends by faults of accepting.
-use Rattle.std.specs.Prelude.{◌≡◌, ◌+◌, ◌-◌, ◌^◌, ◌⊎◌, ℕ, Bool, false, min, nat_le, Result, Ok, Err}
-use Rattle.tcp_connections.specs.declared.entrance.Entrance.{Entrance}
+use Rattle.std.specs.Prelude.{◌≡◌, ◌+◌, ◌-◌, ◌^◌, ◌⊎◌, ℕ, Bool, false, min, nat_le, Option, Some, None}
 use Rattle.tcp_connections.specs.declared.supply.Supply.{Supply}
 
--- how many were let in by it
-abbrev pub let_in_by : Entrance → ℕ
-let_in_by entrance = entrance.let_in
-
--- one more than so many; the count stays at its greatest number
-abbrev pub with_one_more : ℕ → ℕ
-with_one_more count = min (2 ^ 64 - 1) (count + 1)
-
--- what came of a connection, by how many were let in before and after it
-abbrev pub LetsIn : {T E : Type 0} → Result T E → (old new : Entrance) → Type 0
-LetsIn (Ok work) old new = let_in_by new ≡ with_one_more (let_in_by old)
-LetsIn (Err refused) old new = let_in_by new ≡ let_in_by old
+-- what came of a connection, by how many were let in before and after it; the count stays at its greatest number
+abbrev pub LetsIn : {T : Type 0} → Option T → (old new : ℕ) → Type 0
+LetsIn (Some work) old new = new ≡ min (2 ^ 64 - 1) (old + 1)
+LetsIn None old new = new ≡ old
 
 -- what the system gives is enough for one connection: its descriptors
 abbrev pub suffices : Supply → Bool

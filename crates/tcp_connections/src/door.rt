@@ -1,13 +1,12 @@
 //! The door: the value under whose lock connections are accepted and let in.
 ghost use Rattle.std.specs.Option.{ForSome};
-ghost use Rattle.std.specs.Prelude.{◌≡◌, ◌≢◌, ◌⊎◌, ◌↔◌, ◌+◌, ◌^◌, ◌<◌, ◌≤◌, None, Some, false, true, IfSome, min, pos};
-ghost use Rattle.tcp_connections.specs.Admissions.{let_in_by};
-ghost use Rattle.tcp_connections.specs.declared.serving.ServeEnd.TheVariants.{AcceptFaults, Count, Exhausted};
+ghost use Rattle.std.specs.Prelude.{◌≡◌, ◌≢◌, ◌⊎◌, ◌↔◌, ◌+◌, ◌≤◌, None, Some, false, true, IfSome, IsTrue, min, pos};
+ghost use Rattle.tcp_connections.specs.Admissions.{LetsIn};
+ghost use Rattle.tcp_connections.specs.declared.serving.ServeEnd.TheVariants.{AcceptFaults, Count};
 
 use crate::accepting::{AcceptError, Acceptor};
-use crate::entrance::Entrance;
 use crate::means::{Permit, pause_after};
-use crate::serving::{Refused, ServeEnd, Serving};
+use crate::serving::{ServeEnd, Serving};
 use std::time::Duration;
 
 /// So many faults of accepting in succession end a server.
@@ -56,43 +55,39 @@ impl Faults {
 
 /// The door: whoever has its lock waits for the next connection, and lets it in.
 #[derive(Drop)]
-pub(crate) struct Door<A, V: Serving> {
+pub(crate) struct Door<'a, A, V: Serving> {
+    server: &'a V,
     // where connections come from; none once nobody is let in any more
     acceptor: Option<A>,
-    entrance: Entrance,
-    // how many more are let in before the server ends, if it ends by their number
-    left: Option<u32>,
-    // how it ended, if not by that
-    end: Option<ServeEnd<V::Spent>>,
+    // how many were let in, and at how many the server ends, if it ends by their number
+    let_in: u64,
+    count: Option<u32>,
     faults: Faults,
-    ghost within: { ForSome left (λ more. V.count ≡ Some (let_in_by entrance + more)) },
-    ghost small: { ForSome left (λ more. let_in_by entrance + more < 2 ^ 32) },
-    ghost endless: { left ≡ None → V.count ≡ None },
-    ghost otherwise: { (end ≢ Some Count) × (end ≢ Some Exhausted) },
-    ghost by_faults: { end ≡ Some AcceptFaults → faults.count ≡ 100 },
+    ghost asked: { V.count ≡ count },
+    ghost within: { ForSome count (λ most. let_in ≤ most) },
 }
 
-impl<A: Acceptor<Came = V::Came> + Drop, V: Serving> Door<A, V> {
-    /// A door through which nobody came yet. The server ends once `count` were let in.
-    pub fn new(acceptor: A, count: Option<u32>) -> Door<A, V>
+impl<'a, A: Acceptor<Came = V::Came> + Drop, V: Serving> Door<'a, A, V> {
+    /// The door of a server through which nobody came yet. The server ends once `count` were let in.
+    pub fn new(server: &'a V, acceptor: A, count: Option<u32>) -> Door<'a, A, V>
         requires count { V.count ≡ count }
     {
         Door {
+            server,
             acceptor: Some(acceptor),
-            entrance: Entrance::new(),
-            left: count,
-            end: None,
+            let_in: 0,
+            count,
             faults: Faults::none(),
         }
     }
 
-    /// Whether nobody is let in any more.
+    /// Whether nobody is let in any more: as many were as were to be, or a hundred faults came.
     pub fn is_over(&self) -> bool
-        ensures open { result ≡ false → self.now.end ≡ None }
-        ensures more { result ≡ false → self.now.left ≢ Some 0 }
-        ensures over { result ≡ true → (self.now.end ≢ None) ⊎ (self.now.left ≡ Some 0) }
+        ensures more { result ≡ false → self.now.count ≢ Some self.now.let_in }
+        ensures open { result ≡ false → self.now.faults.count ≢ 100 }
+        ensures over { result ≡ true → (self.now.count ≡ Some self.now.let_in) ⊎ (self.now.faults.count ≡ 100) }
     {
-        self.end.is_some() || self.left == Some(0)
+        is_reached(self.count, self.let_in) || self.faults.count == MOST
     }
 
     /// Waits for the next connection, if there is what it takes. `None` once the door is closed.
@@ -102,39 +97,31 @@ impl<A: Acceptor<Came = V::Came> + Drop, V: Serving> Door<A, V> {
 
     /// Drops the acceptor.
     pub fn close(&mut self)
-        ensures end { self.new.end ≡ self.old.end }
+        ensures let_in { self.new.let_in ≡ self.old.let_in }
         ensures same { self.new.faults ≡ self.old.faults }
     {
         self.acceptor = None;
     }
 
     /// Lets a connection in, if it is not refused. It ends the succession of faults.
-    pub fn admit(&mut self, _permit: &Permit, server: &V, came: V::Came) -> Option<V::Work>
-        requires open { self.old.end ≡ None }
-        requires more { self.old.left ≢ Some 0 }
-        ensures its { IfSome result (V.is_its server.now came) }
+    pub fn admit(&mut self, _permit: &Permit, came: V::Came) -> Option<V::Work>
+        requires more { self.old.count ≢ Some self.old.let_in }
+        requires open { self.old.faults.count ≢ 100 }
+        ensures its { IfSome result (V.is_its self.old.server.now came) }
+        ensures counted { LetsIn result self.old.let_in self.new.let_in }
         ensures anew { self.new.faults.count ≡ 0 }
         ensures last { self.new.faults.last ≡ self.old.faults.last }
     {
         self.faults.count = 0;
         self.faults.lacking = 0;
-        match server.admit(&mut self.entrance, came) {
-            Ok(work) => {
-                if let Some(left) = self.left {
-                    self.left = Some(left - 1);
-                }
-                Some(work)
-            }
-            Err(Refused::Once) => None,
-            Err(Refused::Spent(spent)) => {
-                self.end = Some(ServeEnd::Spent(spent));
-                None
-            }
-        }
+        let work = self.server.admit(came)?;
+        self.let_in = self.let_in.saturating_add(1);
+        Some(work)
     }
 
     /// The pause after one more error for want of room.
     pub fn next_pause(&mut self) -> Duration
+        ensures let_in { self.new.let_in ≡ self.old.let_in }
         ensures same { self.new.faults.count ≡ self.old.faults.count }
         ensures last { self.new.faults.last ≡ self.old.faults.last }
     {
@@ -144,37 +131,46 @@ impl<A: Acceptor<Came = V::Came> + Drop, V: Serving> Door<A, V> {
 
     /// No connection came, by this error, and that is a fault: the last of a hundred ends the server.
     pub fn add_fault(&mut self, error: AcceptError)
+        ensures let_in { self.new.let_in ≡ self.old.let_in }
         ensures one_more { self.new.faults.count ≡ min 100 (self.old.faults.count + 1) }
         ensures last { self.new.faults.last ≡ error.number }
     {
         self.faults.count = MOST.min(self.faults.count.saturating_add(1));
         self.faults.last = error.number;
-        if !self.is_over() && self.faults.count == MOST {
-            self.end = Some(ServeEnd::AcceptFaults);
-        }
     }
 
     /// How the server ended, how many were let in, and the faults of accepting that came last. The acceptor is dropped.
-    pub fn into_end(self) -> (ServeEnd<V::Spent>, u64, Faults)
+    pub fn into_end(self) -> (ServeEnd, u64, Faults)
         ensures count { (result.0 ≡ Count) ↔ (V.count ≡ Some result.1) }
         ensures no_more { ForSome V.count (λ most. result.1 ≤ most) }
-        ensures kept { result.2 ≡ self.faults }
+        ensures kept { result.2 ≡ self.entry.faults }
         ensures faults { result.0 ≡ AcceptFaults → result.2.count ≡ 100 }
     {
         let Door {
+            server: _,
             acceptor,
-            entrance,
-            left,
-            end,
+            let_in,
+            count,
             faults,
         } = self;
         drop(acceptor);
-        let let_in = entrance.let_in();
-        drop(entrance);
-        if left == Some(0) {
-            drop(end);
-            return (ServeEnd::Count, let_in, faults);
-        }
-        (end.unwrap_or(ServeEnd::Exhausted), let_in, faults)
+        let end = if is_reached(count, let_in) {
+            ServeEnd::Count
+        } else if faults.count == MOST {
+            ServeEnd::AcceptFaults
+        } else {
+            ServeEnd::Exhausted
+        };
+        (end, let_in, faults)
+    }
+}
+
+// Whether so many were to be let in.
+fn is_reached(count: Option<u32>, let_in: u64) -> bool
+    ensures { IsTrue result ↔ (count ≡ Some let_in) }
+{
+    match count {
+        Some(count) => u64::from(count) == let_in,
+        None => false,
     }
 }

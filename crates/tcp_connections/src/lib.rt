@@ -11,7 +11,6 @@
 
 pub mod accepting;
 pub mod door;
-pub mod entrance;
 mod means;
 pub mod names;
 pub mod rounds;
@@ -22,10 +21,9 @@ pub mod workers;
 
 pub use accepting::{AcceptError, Accepted, Acceptor};
 pub use door::Faults;
-pub use entrance::Entrance;
 pub use means::pause_after;
 pub use names::HostNames;
 pub use rounds::wait_in_rounds;
-pub use serving::{Refused, ServeEnd, Serving};
+pub use serving::{ServeEnd, Serving};
 pub use supply::{Memory, Reserve, Supply};
 pub use workers::Workers;

@@ -1,38 +1,21 @@
 //! What lets connections in and serves them.
-ghost use Rattle.std.specs.Prelude.{ℕ, Option, IfOk};
-ghost use Rattle.tcp_connections.specs.Admissions.{LetsIn};
+ghost use Rattle.std.specs.Prelude.{ℕ, Option, IfSome};
 
-use crate::entrance::Entrance;
-
-/// How a server ended. An `S` is evidence that nobody can be let in any more.
-#[derive(Drop)]
-pub enum ServeEnd<S> {
+/// How a server ended.
+#[derive(Clone, Copy)]
+pub enum ServeEnd {
     /// It let in as many connections as it was to serve.
     Count,
-    /// A connection was refused, and so would be all that follow.
-    Spent(S),
     /// A hundred faults of accepting came in succession, or there were too few descriptors for one connection.
     AcceptFaults,
     /// Nobody more can be served: all places are retired, or there was no memory or no thread for it.
     Exhausted,
 }
 
-/// That a connection was refused. An `S` is evidence that nobody can be let in any more.
-#[derive(Drop)]
-pub enum Refused<S> {
-    /// Only this one was: others may be let in.
-    Once,
-    /// This one was, and so are all that follow.
-    Spent(S),
-}
-
 /// Lets connections in, and serves them. A connection is a value that each call takes, and gives on to the next.
 pub trait Serving {
     /// A connection that came.
     type Came: Send + Drop;
-
-    /// Evidence that nobody can be let in any more: only a refusal makes one.
-    type Spent: Send + Drop;
 
     /// A connection that was let in.
     type Work;
@@ -46,20 +29,15 @@ pub trait Serving {
     /// Whether what was let in is the connection that came.
     ghost is_its: { Self → Self.Came → Self.Work → Type 0 };
 
+    /// How many may be alive at once.
+    ghost most: { ℕ };
+
     /// How many are let in at most, if there is such a number.
     ghost count: { Option ℕ };
 
-    /// Lets a connection in, and counts it.
-    ///
-    /// # Errors
-    /// It was refused, and is closed.
-    fn admit(
-        &self,
-        entrance: &mut Entrance,
-        came: Self::Came,
-    ) -> Result<Self::Work, Refused<Self::Spent>>
-        ensures its { IfOk result (is_its self.now came) }
-        ensures came { LetsIn result entrance.old entrance.new };
+    /// Lets a connection in. `None` if it was refused, and is closed.
+    fn admit(&self, came: Self::Came) -> Option<Self::Work>
+        ensures its { IfSome result (is_its self.now came) };
 
     /// Serves a connection up to the start of its program.
     ///

@@ -27,7 +27,7 @@ pub struct Workers<'a, R, V: Serving, A> {
     rt: &'a R,
     server: &'a V,
     // whoever has its lock waits for the next connection, and lets it in
-    door: Mutex<Door<A, V>>,
+    door: Mutex<Door<'a, A, V>>,
     memory: MemoryLook,
     // whether there is memory for a process in reserve
     has_reserve: bool,
@@ -63,7 +63,8 @@ where
         count: Option<u32>,
         supply: Supply,
         reserve: &'a Reserve,
-    ) -> (ServeEnd<V::Spent>, u64, Faults)
+    ) -> (ServeEnd, u64, Faults)
+        requires most { V.most ≡ most }
         requires count { V.count ≡ count }
         ensures count { result.0 ≡ Count → count ≡ Some result.1 }
         ensures no_more { ForSome count (λ most. result.1 ≤ most) }
@@ -79,7 +80,7 @@ where
         let workers = Workers {
             rt,
             server,
-            door: Mutex::new(Door::new(acceptor, count)),
+            door: Mutex::new(Door::new(server, acceptor, count)),
             memory: MemoryLook::new(alloc, supply),
             has_reserve: supply.has_reserve(),
             means: &means,
@@ -97,8 +98,7 @@ where
             thread::scope_env(),
             workers.rt,
             move |scope|
-                requires { IsSync R.row × IsSync V.row × IsSend V.Spent.row
-                    × IsSend V.Alive.row × IsSend A.row }
+                requires { IsSync R.row × IsSync V.row × IsSend V.Alive.row × IsSend A.row }
             {
                 if !workers.has_reserve || !start_waiting(scope, workers.rt, workers.reserve) {
                     workers.reserve.give_back(workers.rt);
@@ -143,8 +143,7 @@ where
             .spawn_scoped(
                 scope,
                 move ||
-                    requires { IsSync R.row × IsSync V.row × IsSend V.Spent.row
-                        × IsSend V.Alive.row × IsSend A.row }
+                    requires { IsSync R.row × IsSync V.row × IsSend V.Alive.row × IsSend A.row }
                 { workers.come_to_work(scope, number, beginning) },
             )
             .is_ok()
@@ -194,7 +193,7 @@ where
             };
             match door.accept(&permit) {
                 Some(Ok(came)) => {
-                    if let Some(work) = door.admit(&permit, self.server, came) {
+                    if let Some(work) = door.admit(&permit, came) {
                         if door.is_over() {
                             self.end(&mut door);
                         }
@@ -216,7 +215,7 @@ where
 
     // Counts a fault of accepting. After an error for want of descriptors or memory it waits first. If a connection was
     // served then, the error is no fault.
-    fn pause(&self, door: &mut Door<A, V>, error: AcceptError) {
+    fn pause(&self, door: &mut Door<'_, A, V>, error: AcceptError) {
         if error.lacks_room {
             let pause = door.next_pause();
             if self.means.wait_for_change(self.rt, pause) {
@@ -228,7 +227,7 @@ where
     }
 
     // Nobody is let in any more: no worker waits for a connection, and the acceptor is dropped.
-    fn end(&self, door: &mut Door<A, V>) {
+    fn end(&self, door: &mut Door<'_, A, V>) {
         self.means.end(self.rt);
         door.close();
     }

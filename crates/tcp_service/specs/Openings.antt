@@ -25,14 +25,10 @@ pub record Opening : Type 0 where
 abbrev pub opening_of : {L F : Type 0} → (F → List ℕ) → WhenMissing → Pass L F → Opening
 opening_of bytes missing pass = record { bytes = pass_bytes bytes pass; missing = missing }
 
--- a new handle of the rules was opened for the connection with this serial, and this stood there; without a file this
--- is decided
-pub record IsFoundFor {H : Type 0} (gives : H → Type 0) (opened : H → ℕ → Option (List ℕ) → H → Type 0)
-    (missing : WhenMissing) (serial : ℕ) (found : Opening) : Type 0 where
-  pub handle : H
-  pub new : gives handle
-  pub after : H
-  pub stood : opened handle serial found.bytes after
+-- the rules were opened for the connection with this serial, and this stood there; without a file this is decided
+pub record IsFoundFor (opened : ℕ → Option (List ℕ) → Type 0) (missing : WhenMissing) (serial : ℕ) (found : Opening)
+    : Type 0 where
+  pub stood : opened serial found.bytes
   pub without : found.missing ≡ missing
 
 -- what it decides of a peer: by the first lookup form that the file has

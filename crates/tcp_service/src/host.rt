@@ -1,4 +1,4 @@
-//! What a server stands on, and how its connections open the rules, each by a handle of its own.
+//! What a server stands on, and how its connections open the rules, each for itself.
 ghost use Rattle.std.specs.Prelude.{ℕ, List, Option, IfOk};
 ghost use Rattle.std.specs.Option.{option_map};
 
@@ -6,7 +6,7 @@ use child_jobs::{Job, Launcher};
 use dir_calls::{DirFault, RulesFile};
 use rule_lookup::Peer;
 use server_yard::Places;
-use std::alloc::{AllocError, Global};
+use std::alloc::Global;
 use std::io::Write;
 use std::sync::Wait;
 
@@ -21,11 +21,8 @@ pub trait ServiceGround {
     /// A rules file that a connection has opened.
     type File: RulesFile + Drop;
 
-    /// What one connection opens the rules by.
-    type Handle: RulesHandle<Self::File> + Drop;
-
     /// Where the rules stand that each connection opens for itself.
-    type Rules: Rules<Self::File, Handle = Self::Handle>;
+    type Rules: Rules<Self::File>;
 
     /// What takes the lines of the log.
     type Lines: Write;
@@ -45,24 +42,30 @@ pub trait Host: ServiceGround {
     type Job: Job;
 }
 
-/// Where the rules stand that each connection opens for itself.
+/// Why the rules could not be opened.
+#[derive(Clone, Copy)]
+pub struct OpenFailure {
+    /// `OutOfMemory`; any other is a call of the system that failed.
+    pub fault: DirFault,
+    /// The system's number of the error (`errno`), if it has one.
+    pub error: Option<i32>,
+}
+
+/// Where the rules stand that each connection opens for itself. Nobody else waits meanwhile.
 pub trait Rules<F: RulesFile + Drop> {
-    /// What one connection opens them by.
-    type Handle: RulesHandle<F> + Drop;
+    /// They were opened for the connection with this serial number, and this stood there: a file of these bytes, or
+    /// nothing.
+    ghost opened: { Self → (serial : ℕ) → Option (List ℕ) → Type 0 };
 
-    /// Whether a handle is a new one of these rules.
-    ghost gives: { Self → Self.Handle → Type 0 };
-
-    /// A handle for one connection. The system is not called.
+    /// What stands under the rules name, for the connection with this serial number.
     ///
     /// # Errors
-    /// There was no memory.
-    fn handle(&self, alloc: Global) -> Result<Self::Handle, AllocError>
-        ensures new { IfOk result (gives self.now) };
+    /// There was no memory, or a call of the system failed.
+    fn open(&self, alloc: Global, serial: u64) -> Result<Option<F>, OpenFailure>
+        ensures found { IfOk result (λ file. opened self.now serial (option_map F.bytes file)) };
 
-    /// The system's number of the error (`errno`) by which the last call of a handle failed, or a read of what was
-    /// opened, if it has one.
-    fn error(&self, handle: &Self::Handle) -> Option<i32>;
+    /// The system's number of the error (`errno`) by which the last read of a file failed, if it has one.
+    fn read_error(&self, file: &F) -> Option<i32>;
 
     /// The path of the rules file as it was given; empty where there is none.
     fn path(&self) -> &str;
@@ -70,18 +73,4 @@ pub trait Rules<F: RulesFile + Drop> {
     /// The address of the rule that is met first for this client, if that rule is damaged. It is found by one more look
     /// at what stands there now; `None` if it is not found again.
     fn damaged_rule(&self, alloc: Global, peer: &Peer) -> Option<String>;
-}
-
-/// What one connection opens the rules by. Nobody else waits meanwhile.
-pub trait RulesHandle<F: RulesFile + Drop> {
-    /// Between these two states it was opened for the connection with this serial number, and this stood under the
-    /// rules name: a file of these bytes, or nothing.
-    ghost opened: { Self → (serial : ℕ) → Option (List ℕ) → Self → Type 0 };
-
-    /// What stands under the rules name, for the connection with this serial number.
-    ///
-    /// # Errors
-    /// `OutOfMemory`; any other is a call of the system that failed.
-    fn open(&mut self, alloc: Global, serial: u64) -> Result<Option<F>, DirFault>
-        ensures found { IfOk result (λ file. opened self.old serial (option_map F.bytes file) self.new) };
 }

@@ -1,5 +1,5 @@
-//! How a connection is decided: by what a handle of its own finds when it opens the rules. No other connection waits
-//! while the rules are opened, read or closed.
+//! How a connection is decided: by what it finds when it opens the rules. No other connection waits while the rules are
+//! opened, read or closed.
 ghost use Rattle.std.specs.Prelude.{◌≡◌, [], IfErr, IfOk};
 ghost use Rattle.server_yard.specs.Passes.{pass_serial};
 ghost use Rattle.tcp_service.specs.Ends.{noted_event};
@@ -7,8 +7,8 @@ ghost use Rattle.tcp_service.specs.Openings.{IsFoundFor, cause_of, cause_of_open
 ghost use Rattle.tcp_service.specs.Servings.{FailsFor, GivesUp, IsDecided};
 
 use crate::guest::{Greeted, Identity};
-use crate::host::{Rules, RulesHandle, ServiceGround};
-use crate::reasons::{GivenUp, Reason, words_of};
+use crate::host::{OpenFailure, Rules, ServiceGround};
+use crate::reasons::{GivenUp, Reason};
 use crate::server::Context;
 use crate::telling::Noted;
 use child_jobs::{DropCause, Environment, build};
@@ -50,62 +50,58 @@ impl<G: ServiceGround> Context<'_, G> {
     // Opens the rules for a connection, after its client was greeted. If it may not open them now, that counts as a
     // fault of the directory.
     #[tactic(auto, using(crate::proofs::Found::found_for))]
-    fn open<X>(
-        &self,
-        greeted: &Greeted<'_, X>,
-        handle: &mut G::Handle,
-    ) -> Result<Pass<G::Places, G::File>, DropCause>
+    fn open<X>(&self, greeted: &Greeted<'_, X>) -> Result<Pass<G::Places, G::File>, GivenUp>
         requires greeted { greeted_with greeted.now ≡ self.now.plan.now.banner }
-        requires new { G.Rules.gives self.now.rules.now handle.old }
         ensures its { IfOk result (λ pass. pass_serial pass ≡ (greeted_identity greeted.now).serial) }
-        ensures found { IfOk result (λ pass. IsFoundFor
-            (G.Rules.gives self.now.rules.now) G.Handle.opened G.Places.missing
+        ensures found { IfOk result (λ pass. IsFoundFor (G.Rules.opened self.now.rules.now) G.Places.missing
             (greeted_identity greeted.now).serial (opening_of G.File.bytes G.Places.missing pass)) }
-        ensures given_up { IfErr result (GivesUp (λ _. ⊥) []) }
+        ensures given_up { IfErr result (λ up. GivesUp (λ _. ⊥) [] up.cause) }
     {
         let serial = greeted.identity.serial;
-        match handle.open(self.alloc, serial) {
+        match self.rules.open(self.alloc, serial) {
             Ok(file) => match self.yard.lock(self.rt).opened(serial, file) {
                 Ok((pass, _)) => Ok(pass),
-                Err(_) => Err(DropCause::Directory),
+                Err(_) => Err(GivenUp::by(DropCause::Directory)),
             },
-            Err(fault) => Err(cause_of_open(fault)),
+            Err(OpenFailure { fault, error }) => Err(GivenUp {
+                cause: cause_of_open(fault),
+                reason: Reason::of_error(self.alloc, error),
+            }),
         }
     }
 
-    // Opens the rules for a connection, decides it by them, makes the variables for its program, and notes the
-    // decision.
+    /// Opens the rules for a connection that was greeted, decides it by them, makes the variables for its program, and
+    /// notes the decision.
+    ///
+    /// # Errors
+    /// The rules can't be opened or read, or are damaged; or there was no memory. It is not decided.
     #[tactic(auto, using(crate::proofs::Served::given_up_anyway))]
-    fn judge<X>(
-        &self,
-        greeted: &Greeted<'_, X>,
-        handle: &mut G::Handle,
-    ) -> Result<Judged, DropCause>
+    pub(crate) fn decide<X>(&self, greeted: &Greeted<'_, X>) -> Result<Judged, GivenUp>
         requires greeted { greeted_with greeted.now ≡ self.now.plan.now.banner }
-        requires new { G.Rules.gives self.now.rules.now handle.old }
         ensures judged { IfOk result (λ judged. IsDecided
-            (IsFoundFor (G.Rules.gives self.now.rules.now) G.Handle.opened G.Places.missing)
+            (IsFoundFor (G.Rules.opened self.now.rules.now) G.Places.missing)
             G.File.honest G.File.sound (greeted_identity greeted.now) self.now.plan.now
             (noted_event judged.noted) judged.verdict judged.environment) }
-        ensures given_up { IfErr result (GivesUp
-            (FailsFor (IsFoundFor (G.Rules.gives self.now.rules.now) G.Handle.opened G.Places.missing
+        ensures given_up { IfErr result (λ up. GivesUp
+            (FailsFor (IsFoundFor (G.Rules.opened self.now.rules.now) G.Places.missing
             (greeted_identity greeted.now).serial)
-            G.File.honest G.File.sound (greeted_identity greeted.now).peer) []) }
+            G.File.honest G.File.sound (greeted_identity greeted.now).peer) [] up.cause) }
     {
-        let pass = self.open(greeted, handle)?;
+        let pass = self.open(greeted)?;
         let Identity { peer, local, .. } = &greeted.identity;
         let decision = match decide(self.alloc, pass.source(), self.missing, peer) {
             Ok(decision) => decision,
             Err(fault) => {
+                let up = self.given_up(&pass, peer, cause_of(fault));
                 drop(pass);
-                return Err(cause_of(fault));
+                return Err(up);
             }
         };
         let Ok(environment) = build(self.alloc, self.plan.inherited(), local, peer, &decision)
         else {
             drop(pass);
             drop(decision);
-            return Err(DropCause::Memory);
+            return Err(GivenUp::by(DropCause::Memory));
         };
         let verdict = decision.verdict;
         let noted = self.decided(&pass, &greeted.identity, decision);
@@ -118,57 +114,23 @@ impl<G: ServiceGround> Context<'_, G> {
             }),
             Err(cause) => {
                 drop(environment);
-                Err(cause)
+                Err(GivenUp::by(cause))
             }
         }
     }
 
-    /// Decides a connection that was greeted, by what a new handle finds for it.
-    ///
-    /// # Errors
-    /// The rules can't be opened or read, or are damaged; or there was no memory. It is not decided.
-    pub(crate) fn decide<X>(&self, greeted: &Greeted<'_, X>) -> Result<Judged, GivenUp>
-        requires greeted { greeted_with greeted.now ≡ self.now.plan.now.banner }
-        ensures judged { IfOk result (λ judged. IsDecided
-            (IsFoundFor (G.Rules.gives self.now.rules.now) G.Handle.opened G.Places.missing)
-            G.File.honest G.File.sound (greeted_identity greeted.now) self.now.plan.now
-            (noted_event judged.noted) judged.verdict judged.environment) }
-        ensures given_up { IfErr result (λ up. GivesUp
-            (FailsFor (IsFoundFor (G.Rules.gives self.now.rules.now) G.Handle.opened G.Places.missing
-            (greeted_identity greeted.now).serial)
-            G.File.honest G.File.sound (greeted_identity greeted.now).peer) [] up.cause) }
+    // A connection is given up for this cause, since a decision by what it opened failed. The reason is why a read did,
+    // or which rule is damaged.
+    fn given_up(&self, pass: &Pass<G::Places, G::File>, peer: &Peer, cause: DropCause) -> GivenUp
+        ensures { result.cause ≡ cause }
     {
-        let Ok(mut handle) = self.rules.handle(self.alloc) else {
-            return Err(GivenUp {
-                cause: DropCause::Memory,
-                reason: None,
-            });
-        };
-        match self.judge(greeted, &mut handle) {
-            Ok(judged) => {
-                drop(handle);
-                Ok(judged)
+        let reason = match (cause, pass.source()) {
+            (DropCause::ReadFault, Some(source)) => {
+                Reason::of_error(self.alloc, self.rules.read_error(source.file()))
             }
-            Err(cause) => {
-                let reason = self.reason_of(&handle, cause, &greeted.identity.peer);
-                drop(handle);
-                Err(GivenUp { cause, reason })
-            }
-        }
-    }
-
-    // Why the rules could not be opened or read, or which rule is damaged.
-    fn reason_of(&self, handle: &G::Handle, cause: DropCause, peer: &Peer) -> Option<Reason> {
-        match cause {
-            DropCause::Directory | DropCause::ReadFault => {
-                let error = self.rules.error(handle);
-                Some(Reason::Rules(words_of(self.alloc, error)?))
-            }
-            DropCause::Damaged => {
-                let address = self.rules.damaged_rule(self.alloc, peer)?;
-                Some(Reason::Rule(address))
-            }
+            (DropCause::Damaged, _) => self.rules.damaged_rule(self.alloc, peer).map(Reason::Rule),
             _ => None,
-        }
+        };
+        GivenUp { cause, reason }
     }
 }

@@ -1,4 +1,6 @@
 //! What the log tells of why a connection was denied or given up.
+ghost use Rattle.std.specs.Prelude.{◌≡◌};
+
 use byte_text::words_of_error;
 use child_jobs::DropCause;
 use rule_lookup::{Decision, Found, Verdict};
@@ -28,7 +30,24 @@ pub(crate) struct GivenUp {
     pub reason: Option<Reason>,
 }
 
+impl GivenUp {
+    /// Given up for this cause, of which the log tells nothing more.
+    pub(crate) fn by(cause: DropCause) -> GivenUp
+        ensures { result.cause ≡ cause }
+    {
+        GivenUp {
+            cause,
+            reason: None,
+        }
+    }
+}
+
 impl Reason {
+    /// The rules could not be opened or read by this error of the system, if it has a number and there is memory.
+    pub(crate) fn of_error(alloc: Global, error: Option<i32>) -> Option<Reason> {
+        Some(Reason::Rules(words_of(alloc, error)?))
+    }
+
     /// The cause for the log, for rules at this path.
     pub(crate) fn cause<'a>(&'a self, rules: &'a str) -> Cause<'a> {
         match self {

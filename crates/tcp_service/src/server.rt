@@ -40,6 +40,6 @@ pub struct Context<'a, G: ServiceGround> {
 pub struct Server<'a, H: Host> {
     /// What connections are named, decided and told by.
     pub context: Context<'a, H>,
-    pub ghost may: { MayStartEach (IsFoundFor (H.Rules.gives context.rules.now) H.Handle.opened H.Places.missing)
+    pub ghost may: { MayStartEach (IsFoundFor (H.Rules.opened context.rules.now) H.Places.missing)
         H.File.honest H.File.sound context.plan.now H.Connection.contents H.Connection.may },
 }

@@ -4,7 +4,6 @@ ghost use Rattle.std.specs.Prelude.{◌≡◌, IfErr, IfOk, IfSome, Some};
 ghost use Rattle.child_jobs.specs.Runs.{job_of, place_of};
 ghost use Rattle.rule_lookup.specs.declared.instr.Verdict.TheVariants.{Allow};
 ghost use Rattle.server_events.specs.declared.event.Event.TheVariants as event;
-ghost use Rattle.tcp_connections.specs.Admissions.{LetsIn};
 ghost use Rattle.tcp_connections.specs.Names.{client_at, local_at};
 ghost use Rattle.tcp_service.specs.Accepting.{IsAccepted};
 ghost use Rattle.tcp_service.specs.Ends.{over_decided, over_end};
@@ -22,10 +21,9 @@ use crate::telling::Over;
 use child_jobs::{Local, Place};
 use rule_lookup::{Peer, Verdict};
 use server_log::{Reported, Told};
-use server_yard::{AdmitFault, NoNumbers};
 use std::alloc::Global;
 use std::snapshot::Snapshot;
-use tcp_connections::{Accepted, Entrance, HostNames, Refused, Serving, wait_in_rounds};
+use tcp_connections::{Accepted, HostNames, Serving, wait_in_rounds};
 
 /// A connection that was let in and whose program was not started yet: the right to what comes next. It is made of what
 /// its admission gave: that was made for its serial number and its client (`own`).
@@ -42,15 +40,12 @@ where
     H::Runtime: Sync,
     H::Places: Send + Sync,
     H::File: Send,
-    H::Handle: Send,
     H::Rules: Sync,
     H::Lines: Send,
     H::Connection: Send,
     H::Job: Send,
 {
     type Came = Accepted<H::Connection>;
-
-    type Spent = NoNumbers;
 
     type Work = Admitted<H>;
 
@@ -61,40 +56,34 @@ where
     ghost is_its = { λ server came admitted.
         IsAccepted server.context.names.now admitted.guest came };
 
+    ghost most = { H.Places.parts };
+
     ghost count = { H.Places.admissions };
 
-    /// A connection gets the names of its ends, and is counted.
-    fn admit(
-        &self,
-        entrance: &mut Entrance,
-        came: Accepted<H::Connection>,
-    ) -> Result<Admitted<H>, Refused<NoNumbers>> {
+    /// A connection gets the names of its ends, and is let in by its yard.
+    fn admit(&self, came: Accepted<H::Connection>) -> Option<Admitted<H>> {
         let context = &self.context;
         let Some((peer, local)) = ends_of(context.alloc, context.names, &came) else {
             drop(came);
             let _ = context.log.lock(context.rt).out_of_memory();
-            return Err(Refused::Once);
+            return None;
         };
-        match admit(context, entrance, &peer) {
-            Ok((serial, place, admitted)) => {
-                let identity = Identity {
-                    serial,
-                    peer,
-                    local,
-                };
-                Ok(Admitted {
-                    guest: Guest::new(identity, came.connection),
-                    place,
-                    admitted: Snapshot::of(&admitted),
-                })
-            }
-            Err(refused) => {
-                drop(came);
-                drop(peer);
-                drop(local);
-                Err(refused)
-            }
-        }
+        let Some((serial, place, admitted)) = admit(context, &peer) else {
+            drop(came);
+            drop(peer);
+            drop(local);
+            return None;
+        };
+        let identity = Identity {
+            serial,
+            peer,
+            local,
+        };
+        Some(Admitted {
+            guest: Guest::new(identity, came.connection),
+            place,
+            admitted: Snapshot::of(&admitted),
+        })
     }
 
     /// A connection is served up to the start of its program (UCSPI-1996; the page of `tcpserver`). Its client is sent
@@ -111,12 +100,12 @@ where
         ensures place { IfOk result (λ alive. place_of alive.running ≡ admitted.place) }
         // the decided program, with the decided environment
         ensures child { IfOk result (λ alive. IsDecidedChild
-            (IsFoundFor (H.Rules.gives self.now.context.rules.now) H.Handle.opened H.Places.missing)
+            (IsFoundFor (H.Rules.opened self.now.context.rules.now) H.Places.missing)
             H.File.honest H.File.sound (guest_identity admitted.guest) self.now.context.plan.now
             (H.Job.program (job_of alive.running)) (H.Job.environment (job_of alive.running))) }
         ensures over { IfErr result (λ over. over.serial ≡ (guest_identity admitted.guest).serial) }
         ensures reason { IfErr result (λ over. EndsFor
-            (IsFoundFor (H.Rules.gives self.now.context.rules.now) H.Handle.opened H.Places.missing)
+            (IsFoundFor (H.Rules.opened self.now.context.rules.now) H.Places.missing)
             H.File.honest H.File.sound (guest_identity admitted.guest) self.now.context.plan.now
             (RefusesGreeted H.Connection.contents self.now.context.plan.now.banner
             H.Connection.refuses (guest_connection admitted.guest)) (over_decided over) (over_end over)) }
@@ -194,15 +183,9 @@ fn ends_of<X>(alloc: Global, names: &HostNames, came: &Accepted<X>) -> Option<(P
 // Of a connection that was let in: its serial, its place, and the report of its admission.
 type Admission<L> = (u64, Place<L>, Reported);
 
-// Lets a connection in, and counts it. It gives a serial and a place. The log is told of it, or why it was refused, if
-// that has a line. Then nobody was let in.
-fn admit<G: ServiceGround>(
-    context: &Context<'_, G>,
-    entrance: &mut Entrance,
-    peer: &Peer,
-) -> Result<Admission<G::Places>, Refused<NoNumbers>>
-    ensures came { LetsIn result entrance.old entrance.new }
-    ensures own { IfOk result (λ r. IsAdmitted r.0 peer.now r.2) }
+// Lets a connection in: it gets a serial and a place. The log is told of it, or why it was refused, if that has a line.
+fn admit<G: ServiceGround>(context: &Context<'_, G>, peer: &Peer) -> Option<Admission<G::Places>>
+    ensures own { IfSome result (λ r. IsAdmitted r.0 peer.now r.2) }
 {
     let mut yard = context.yard.lock(context.rt);
     match yard.admit(peer) {
@@ -210,16 +193,12 @@ fn admit<G: ServiceGround>(
             let ip = peer.ip();
             let admitted = context.report(&yard, Ok(made), Told::Admitted { serial, ip });
             drop(yard);
-            entrance.let_one_in();
-            Ok((serial, place, admitted))
+            Some((serial, place, admitted))
         }
         Err(fault) => {
             let _ = context.log.lock(context.rt).refused(peer.ip(), fault);
             drop(yard);
-            match fault {
-                AdmitFault::Spent(no_numbers) => Err(Refused::Spent(no_numbers)),
-                _ => Err(Refused::Once),
-            }
+            None
         }
     }
 }

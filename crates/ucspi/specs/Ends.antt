@@ -6,7 +6,7 @@ use Rattle.server_parts.specs.declared.fault.ServerFailure.{ServerFailure}
 use Rattle.server_parts.specs.declared.fault.ServerFault.{ServerFault}
 use Rattle.server_parts.specs.declared.fault.ServerFault.TheVariants as fault
 use Rattle.tcp_connections.specs.declared.serving.ServeEnd.{ServeEnd}
-use Rattle.tcp_connections.specs.declared.serving.ServeEnd.TheVariants.{AcceptFaults, Count, Exhausted, Spent}
+use Rattle.tcp_connections.specs.declared.serving.ServeEnd.TheVariants.{AcceptFaults, Count, Exhausted}
 use Rattle.ucspi.specs.declared.ends.Last.{Last}
 
 -- what a yard with these books and this server was like at the end, where so many were let in: it has lost a connection
@@ -23,12 +23,11 @@ failed fault = Err (record { fault = fault; error = None })
 
 -- a server that has served all ends well; a fault of accepting has the last error's number, or that for want of
 -- descriptors; what else ends a server is that all places are retired, or want of memory
-abbrev pub told_by : {S : Type 0} → Last → ServeEnd S → (accepting : Option ℤ) → Result (Unit {0}) ServerFailure
+abbrev pub told_by : Last → ServeEnd → (accepting : Option ℤ) → Result (Unit {0}) ServerFailure
 told_by last Count accepting = Ok tt
-told_by last (Spent spent) accepting = Ok tt
 told_by last AcceptFaults accepting = Err (record { fault = fault.AcceptFault; error = accepting })
 told_by last Exhausted accepting = if last.is_retired then failed fault.NoPlaces else failed fault.OutOfMemory
 
 -- but one that has lost a connection ends by that
-abbrev pub told_of : {S : Type 0} → Last → ServeEnd S → (accepting : Option ℤ) → Result (Unit {0}) ServerFailure
+abbrev pub told_of : Last → ServeEnd → (accepting : Option ℤ) → Result (Unit {0}) ServerFailure
 told_of last end accepting = if last.has_lost then failed fault.LostConnection else told_by last end accepting

@@ -7,8 +7,7 @@ use server_parts::{ServerFailure, ServerFault};
 use server_yard::Places;
 use tcp_connections::ServeEnd;
 
-/// A server has served as many connections as its words say, or all for which there are numbers. Only what such a
-/// server gave makes one.
+/// A server has served as many connections as its words say. Only what such a server gave makes one.
 #[derive(Drop)]
 pub struct Finished(());
 
@@ -37,7 +36,7 @@ pub(crate) fn end_of<L: Places>(served: AtEnd<L>) -> Result<Finished, ServerFail
     drop(yard);
     let fault = match end {
         _ if last.has_lost => ServerFault::LostConnection,
-        ServeEnd::Count | ServeEnd::Spent(_) => return Ok(Finished(())),
+        ServeEnd::Count => return Ok(Finished(())),
         ServeEnd::AcceptFaults => {
             return Err(ServerFailure {
                 fault: ServerFault::AcceptFault,

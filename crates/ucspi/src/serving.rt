@@ -17,7 +17,7 @@ use rule_lookup::WhenMissing;
 use server_log::Log;
 use server_parts::ServerFailure;
 use server_words::ConnectionLimits;
-use server_yard::{NoNumbers, Places, Yard};
+use server_yard::{Places, Yard};
 use std::alloc::Global;
 use std::sync::Mutex;
 use std::thread::Threads;
@@ -53,7 +53,7 @@ pub(crate) struct ServerParts<'a, W> {
 #[derive(Drop)]
 pub(crate) struct AtEnd<L: Places> {
     /// How it ended.
-    pub end: ServeEnd<NoNumbers>,
+    pub end: ServeEnd,
     /// What its yard was like then.
     pub last: Last,
     /// That yard, with all that happened.
@@ -95,7 +95,6 @@ where
     H::Runtime: Threads + Clock + Sync,
     H::Places: Send + Sync,
     H::File: Send,
-    H::Handle: Send,
     H::Rules: Sync,
     H::Lines: Send,
     H::Connection: Send,
@@ -104,9 +103,10 @@ where
     requires new { (yard_books yard).count ≡ 0 }
     requires limits { AreLimits parts.now.limits (yard_server yard).limit (yard_server yard).per_address }
     requires serves { H.Places.installs ≡ false }
+    requires most { H.Places.parts ≡ parts.now.limits.connections }
     requires count { H.Places.admissions ≡ parts.now.limits.count }
     requires missing { missing ≡ H.Places.missing }
-    requires may { MayStartEach (IsFoundFor (H.Rules.gives rules.now) H.Handle.opened H.Places.missing)
+    requires may { MayStartEach (IsFoundFor (H.Rules.opened rules.now) H.Places.missing)
         H.File.honest H.File.sound parts.now.plan H.Connection.contents H.Connection.may }
 {
     let live = yard.live();
@@ -141,7 +141,7 @@ where
 
 // Looks at a yard at the end of its server.
 fn at_end<L: Places>(
-    end: ServeEnd<NoNumbers>,
+    end: ServeEnd,
     let_in: u64,
     faults: Faults,
     supply: Supply,

@@ -2,9 +2,8 @@
 ghost use Rattle.std.specs.Prelude.{◌≡◌, ⊤, ℕ, List, IfOk, IfErr};
 ghost use Rattle.server_parts.specs.declared.fault.ServerFault.TheVariants.{CannotListen};
 
-use crate::rules::{FolderHandle, FolderRules};
+use crate::rules::FolderRules;
 use byte_streams::Patient;
-use dir_disk::{NoWait, SystemDisk};
 use server_parts::opening::listen;
 use server_parts::{RulesOnDisk, ServerFailure};
 use server_yard::Places;
@@ -118,8 +117,6 @@ impl<'a, P: System, L: Places + Send + Sync> ServiceGround for OnSystem<'a, P, L
     type Places = L;
 
     type File = RulesOnDisk;
-
-    type Handle = FolderHandle<'a, SystemDisk<&'a P::Runtime, NoWait>>;
 
     type Rules = FolderRules<'a, P::Runtime>;
 

@@ -25,7 +25,7 @@ use server_parts::limits::supply_for;
 use server_parts::opening::{hold_standard, names_of, plan_of, print_port};
 use server_parts::signals::forgets_programs;
 use server_parts::{RulesPath, ServerFailure, ServerFault, TcpserverFault};
-use server_words::{Level, ServerWords, read_server_words};
+use server_words::{ConnectionLimits, Level, ServerWords, read_server_words};
 use server_yard::{Places, Yard};
 use std::alloc::Global;
 use std::fs::{File, Files};
@@ -175,7 +175,7 @@ fn open_and_run<'a, P: System + Send + Sync>(
     let (search, reserve) = (&server.search, &server.reserve);
     let starter = ProgramStarter::new(rt, search, reserve, server.passing, errors);
     let acceptor = open_socket::<P>(rt, &server.log, words, &starter)?;
-    let places = Blank::new(words.limits().connections);
+    let places = Blank::new(server.limits.connections);
     let run = run_in_yard::<Brand, P>(rt, server, acceptor, &rules, words, places);
     drop(rules);
     run
@@ -236,9 +236,9 @@ fn run_in_yard<'a, L: Places + Send + Sync, P: System + Send + Sync>(
     words: &'a ServerWords<'_>,
     places: Blank,
 ) -> Result<Finished, ServerFailure>
-    requires places { (places.name ≡ L.name) × (places.parts ≡ L.parts)
-        × (places.parts ≡ words.now.limits.connections) }
+    requires places { (places.name ≡ L.name) × (places.parts ≡ L.parts) }
     requires serves { L.installs ≡ false }
+    requires most { L.parts ≡ server.now.limits.connections }
     requires count { L.admissions ≡ server.now.limits.count }
     requires missing { L.missing ≡ rules_missing rules.now }
     requires asked { AreAsked words.now server.now }
@@ -247,7 +247,7 @@ fn run_in_yard<'a, L: Places + Send + Sync, P: System + Send + Sync>(
 {
     let alloc = rt.alloc();
     tell_names(rt, alloc, &server.log, rules, words);
-    let yard = yard_of::<L>(alloc, words, places)?;
+    let yard = yard_of::<L>(alloc, server.limits, places)?;
     let missing = rules.missing();
     let rules = FolderRules(rules);
     serve::<OnSystem<'a, P, L>, AcceptorOn<'a, P>>(
@@ -255,20 +255,19 @@ fn run_in_yard<'a, L: Places + Send + Sync, P: System + Send + Sync>(
     )
 }
 
-// A yard of a server, with the limits of the words.
+// A yard of a server, with these limits.
 fn yard_of<L: Places>(
     alloc: Global,
-    words: &ServerWords<'_>,
+    limits: ConnectionLimits,
     places: Blank,
 ) -> Result<Yard<L>, ServerFault>
-    requires places { (places.name ≡ L.name) × (places.parts ≡ L.parts)
-        × (places.parts ≡ words.now.limits.connections) }
+    requires places { (places.name ≡ L.name) × (places.parts ≡ L.parts) }
+    requires most { L.parts ≡ limits.connections }
     ensures limits { IfOk result (λ yard.
-        AreLimits words.now.limits (yard_server yard).limit (yard_server yard).per_address) }
+        AreLimits limits (yard_server yard).limit (yard_server yard).per_address) }
     ensures new { IfOk result (λ yard. (yard_books yard).count ≡ 0) }
     ensures refused { IfErr result (λ fault. fault ≡ OutOfMemory) }
 {
-    let limits = words.limits();
     let journal = Journal::counting();
     match Yard::<L>::new(
         alloc,
