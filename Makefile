@@ -2,7 +2,7 @@
 #
 # make try        builds the program without proofs in a minute (2 minutes of a processor), and makes the stored run of rulesim;
 #                 ARGS="tcprulescheck x" runs any tool of it
-# make test       builds the program and the small programs of the tests without proofs, and runs all tests that need no proved program, in
+# make test       builds the program and that of the tests without proofs, and runs all tests that need no proved program, in
 #                 9 minutes (18 of a processor); GROUPS="cookbook" runs some
 # make            proves and builds the program in half an hour (80 minutes of a processor); what out/ has of it is used
 # make run        makes the stored run on the proved program
@@ -22,13 +22,11 @@ PREFIX ?= $(prefix)
 MANDIR ?= $(mandir)
 PROGRAM := crates/ucspi/out/ucspi
 TOOLS := addcr delcr fixcrio recordio rulesim tcprules tcprulescheck tcpserver
-# the small programs of the tests: one program, which looks at the name by which it is called
-SMALL := test_folders test_sites
-PROBE := crates/test_programs/out/test_programs
-PROBES := $(addprefix crates/test_programs/out/,$(SMALL))
+# the program of the tests
+PROBE := crates/test_site/out/test_site
 # both, built without proofs
 TRIED := out/try/ucspi
-TRIED_PROBE := out/try/test_programs
+TRIED_PROBE := out/try/test_site
 # how many processors the checks have: all, but no more than one for each 4 GB of free memory, twice what the largest check takes on one
 RT_JOBS ?= $(shell awk -v most=$$(nproc) '/^MemAvailable/ { room = int($$2 / 4000000); print room < 1 ? 1 : room < most ? room : most }' /proc/meminfo)
 SOURCES := HANDLES crates.txt $(shell find crates -name out -prune -o -type f -print)
@@ -42,17 +40,14 @@ $(PROGRAM): $(SOURCES)
 	@touch $@
 
 $(PROBE): $(SOURCES)
-	@RT_JOBS=$(RT_JOBS) scripts/prove test_programs
+	@RT_JOBS=$(RT_JOBS) scripts/prove test_site
 	@touch $@
-
-$(PROBES): $(PROBE)
-	ln -f $< $@
 
 $(TRIED): $(filter %.rt crates.txt,$(SOURCES))
 	@scripts/try build ucspi $@ $(TOOLS)
 
 $(TRIED_PROBE): $(filter %.rt crates.txt,$(SOURCES))
-	@scripts/try build test_programs $@ $(SMALL)
+	@scripts/try build test_site $@
 
 try: $(TRIED)
 	@scripts/try run $(TRIED) $(ARGS)
@@ -74,7 +69,7 @@ check:
 edits:
 	scripts/edits
 
-probes: $(PROBES)
+probes: $(PROBE)
 
 bench: $(PROGRAM)
 	bench/run

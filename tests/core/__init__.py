@@ -1,1 +1,1 @@
-"""Calls of the server's parts, made by small programs: the yard, its tables and events."""
+"""Calls of the server's parts: the yard, its tables and events."""

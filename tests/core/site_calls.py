@@ -1,4 +1,4 @@
-"""Eight callers of one site in threads of their own, by the program test_sites. It compares their receipts with the history of the site's yard, and
+"""Eight callers of one site in threads of their own, by the program test_site. It compares their receipts with the history of the site's yard, and
 that with the yard's report; then it prints the report, and else nothing."""
 from shared.checks import Runs
 

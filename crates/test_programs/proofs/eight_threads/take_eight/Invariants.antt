@@ -1,6 +1,0 @@
-use Rattle.std.specs.Prelude.{◌≡◌, ◌+◌}
-use Rattle.whole_yard.specs.Callers.{new_count}
-use Rattle.test_programs.proofs.eight_threads.take_eight.Given as goal
-
-abbrev pub invariant-loop : goal.invariant-loop
-invariant-loop g l = new_count l.new + l.counter ≡ 8

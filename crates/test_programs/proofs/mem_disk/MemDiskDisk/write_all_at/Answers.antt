@@ -1,6 +1,0 @@
-use Rattle.memory_dirs.specs.Folder.{directory_of}
-use Rattle.memory_dirs.proofs.History.{step_more}
-use Rattle.test_programs.proofs.mem_disk.MemDiskDisk.write_all_at.Goals as goal
-
-pub returns-clause-time : goal.returns-clause-time
-returns-clause-time c = λ honest. step_more c.args.self.now.past.items c.and-past.result.items c.args.self.now.folder (directory_of c.write-outcome.new.folder) c.and-past.ensures

@@ -1,0 +1,6 @@
+use Rattle.memory_dirs.specs.Folder.{directory_of}
+use Rattle.memory_dirs.proofs.History.{step_more}
+use Rattle.test_site.proofs.mem_disk.MemDiskDisk.create.Goals as goal
+
+pub returns-clause-time : goal.returns-clause-time
+returns-clause-time c = λ honest. step_more c.args.self.now.past.items c.and-past.result.items c.args.self.now.folder (directory_of c.make.new.self) c.and-past.ensures
