@@ -26,7 +26,7 @@ impl<F: DiskFile + Drop> OsFile<F> {
 }
 
 impl OsFile<SystemFile> {
-    /// The system's number of the error (`errno`) by which its last read failed, if it did and the number is known.
+    /// The system's number of the error (`errno`) of the last call of its folder, reads included, if that failed.
     pub fn error(&self) -> Option<i32> {
         self.file.error()
     }

@@ -69,7 +69,7 @@ pub struct SystemFile {
 }
 
 impl SystemFile {
-    /// The system's number of the error by which its last read failed, if it did and the number is known.
+    /// The system's number of the error of the last call of its folder, reads included, if that failed.
     pub(crate) fn error(&self) -> Option<i32> {
         error_in(self.noted.as_ref()?)
     }

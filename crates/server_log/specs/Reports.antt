@@ -1,7 +1,9 @@
 -- What a log is told of a yard's events.
-use Rattle.std.specs.Prelude.{◌≡◌, Result}
+use Rattle.std.specs.Prelude.{◌≡◌, ⊤, List, Result, Some}
+use Rattle.server_events.specs.ServerState.{peer_of}
 use Rattle.server_events.specs.declared.event.Event.{Event}
 use Rattle.server_events.specs.declared.event.Event.TheVariants as event
+use Rattle.server_events.specs.declared.state.Connection.{Connection}
 use Rattle.server_log.specs.declared.fault.LogFault.{LogFault}
 use Rattle.server_log.specs.declared.lines.Told.{Told}
 use Rattle.server_log.specs.declared.lines.Told.TheVariants as told
@@ -20,6 +22,11 @@ Tells (told.Ended n status signal) (event.Ended m end) = (n ≡ m) × (status �
 Tells (told.Retired n) (event.Retired m) = n ≡ m
 Tells (told.Dropped n cause file words) (event.Dropped m why) = (n ≡ m) × (cause ≡ why)
 Tells other event = ⊥
+
+-- a client that it is told of is that of the connection, of these
+abbrev pub TellsItsClient : Told → List Connection → Type 0
+TellsItsClient (told.Decided n verdict local peer file) connections = peer_of n connections ≡ Some peer.now
+TellsItsClient other connections = ⊤
 
 -- what a yard answered, the event that it was asked for, and what became of the lines of the event
 abbrev pub reported_answer : Reported → Result Made OutOfTurn

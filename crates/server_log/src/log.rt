@@ -53,7 +53,7 @@ impl Reported {
 }
 
 impl<W: Write> Log<W> {
-    ghost use Rattle.server_log.specs.Reports.{Tells, reported_answer, reported_lines};
+    ghost use Rattle.server_log.specs.Reports.{Tells, TellsItsClient, reported_answer, reported_lines};
 
     /// A log of this level that speaks with this voice, for a server with this limit of connections. It takes no
     /// memory, and nothing is written.
@@ -101,6 +101,7 @@ impl<W: Write> Log<W> {
         told: Told<'_>,
     ) -> Reported
         requires its { Tells told (asked_event answer) }
+        requires client { OnOk answer (TellsItsClient told (yard_server yard.now).connections) }
         requires just { IfOk answer (λ made. made_at made ≡ (yard_books yard.now).count) }
         ensures answer { reported_answer result ≡ answer }
         ensures order { IfOk answer (λ made.

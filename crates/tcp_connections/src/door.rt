@@ -71,6 +71,8 @@ impl<'a, A: Acceptor<Came = V::Came> + Drop, V: Serving> Door<'a, A, V> {
     /// The door of a server through which nobody came yet. The server ends once `count` were let in.
     pub fn new(server: &'a V, acceptor: A, count: Option<u32>) -> Door<'a, A, V>
         requires count { V.count ≡ count }
+        ensures nobody { result.let_in ≡ 0 }
+        ensures no_faults { result.faults.count ≡ 0 }
     {
         Door {
             server,
@@ -143,6 +145,7 @@ impl<'a, A: Acceptor<Came = V::Came> + Drop, V: Serving> Door<'a, A, V> {
     pub fn into_end(self) -> (ServeEnd, u64, Faults)
         ensures count { (result.0 ≡ Count) ↔ (V.count ≡ Some result.1) }
         ensures no_more { ForSome V.count (λ most. result.1 ≤ most) }
+        ensures let_in { result.1 ≡ self.entry.let_in }
         ensures kept { result.2 ≡ self.entry.faults }
         ensures faults { result.0 ≡ AcceptFaults → result.2.count ≡ 100 }
     {

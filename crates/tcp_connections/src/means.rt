@@ -21,9 +21,6 @@ const TRIES: u32 = 9;
 /// what one takes.
 #[derive(Drop)]
 pub(crate) struct Means {
-    supply: Supply,
-    // how many connections there may be, and so how many workers
-    most: u64,
     held: Mutex<Held>,
     // wakes workers that wait for what a connection takes
     freed: Condvar,
@@ -31,9 +28,12 @@ pub(crate) struct Means {
     wanted: Condvar,
 }
 
-// What workers and connections have.
+// What workers and connections have, of what there is.
 #[derive(Clone, Copy)]
 struct Held {
+    supply: Supply,
+    // how many connections there may be, and so how many workers
+    most: u64,
     // how many workers there are, how many of them are at the door, and how often in succession none could be made
     workers: u64,
     at_door: u64,
@@ -70,31 +70,32 @@ impl Held {
     }
 
     // How many descriptors connections have.
-    fn descriptors(&self, supply: Supply) -> u64 {
+    fn descriptors(&self) -> u64 {
         let going_on = self.served().saturating_sub(self.beginning);
-        let to_begin = self.beginning.saturating_mul(supply.to_begin);
-        to_begin.saturating_add(going_on.saturating_mul(supply.to_go_on))
+        let to_begin = self.beginning.saturating_mul(self.supply.to_begin);
+        to_begin.saturating_add(going_on.saturating_mul(self.supply.to_go_on))
     }
 
-    // Whether there is what one more connection takes, where so many may be alive.
-    fn has_room(&self, most: u64, supply: Supply) -> bool {
-        let descriptors = self.descriptors(supply).saturating_add(supply.to_begin);
-        self.alive < most
+    // Whether there is what one more connection takes.
+    fn has_room(&self) -> bool {
+        let supply = self.supply;
+        let descriptors = self.descriptors().saturating_add(supply.to_begin);
+        self.alive < self.most
             && descriptors <= supply.descriptors
             && self.beginning < supply.at_once()
             && !(self.is_expected && supply.memory.is_some())
     }
 
-    // Whether nobody more can be let in, where so many may be alive: the server is over, all are retired, or there is
-    // no worker, and there can be none.
-    fn has_ended(&self, most: u64) -> bool {
+    // Whether nobody more can be let in: the server is over, all are retired, or there is no worker, and there can be
+    // none.
+    fn has_ended(&self) -> bool {
         let has_no_worker = self.workers == 0 && self.failures >= TRIES;
-        self.is_over || self.retired >= most || has_no_worker
+        self.is_over || self.retired >= self.most || has_no_worker
     }
 
-    // Whether one more worker is wanted, where there may be so many.
-    fn wants_worker(&self, most: u64) -> bool {
-        self.at_door == 0 && self.workers < most
+    // Whether one more worker is wanted.
+    fn wants_worker(&self) -> bool {
+        self.at_door == 0 && self.workers < self.most
     }
 
     // A connection has its program, or there is none any more.
@@ -110,6 +111,8 @@ impl Means {
     /// All of it is free, for at most `most` connections at once. There are no workers yet.
     pub fn new(supply: Supply, most: u64) -> Means {
         let held = Held {
+            supply,
+            most,
             workers: 0,
             at_door: 0,
             failures: 0,
@@ -121,8 +124,6 @@ impl Means {
             is_over: false,
         };
         Means {
-            supply,
-            most,
             held: Mutex::new(held),
             freed: Condvar::new(),
             wanted: Condvar::new(),
@@ -131,11 +132,10 @@ impl Means {
 
     /// Waits until there is what one more connection takes, and takes it. `None` once nobody is let in any more.
     pub fn take<R: Wait>(&self, rt: &R) -> Option<Permit> {
-        let (most, supply) = (self.most, self.supply);
         let mut held = self.freed.wait_while(rt, self.held.lock(rt), |held| {
-            !held.has_ended(most) && !held.has_room(most, supply)
+            !held.has_ended() && !held.has_room()
         });
-        if held.has_ended(most) {
+        if held.has_ended() {
             return None;
         }
         held.alive = held.alive.saturating_add(1);
@@ -188,7 +188,7 @@ impl Means {
 
     // Lets the lock go, wakes those who wait for a change, and whoever makes workers if there is something to do.
     fn free(&self, held: MutexGuard<'_, Held>) {
-        let is_wanted = held.has_ended(self.most) || held.wants_worker(self.most);
+        let is_wanted = held.has_ended() || held.wants_worker();
         drop(held);
         self.freed.notify_all();
         if is_wanted {
@@ -207,7 +207,6 @@ impl Means {
     /// Waits until one more worker is wanted. Before that it waits for the answer of the last new worker, and pauses if
     /// none could be made. `false` once nobody more can be let in.
     pub fn wait_for_want<R: Wait + Clock>(&self, rt: &R) -> bool {
-        let most = self.most;
         let mut held = self
             .wanted
             .wait_while(rt, self.held.lock(rt), |held| held.is_expected);
@@ -215,13 +214,13 @@ impl Means {
             let pause = pause_after(held.failures);
             let (later, _) = self
                 .wanted
-                .wait_timeout_while(rt, held, pause, |held| !held.has_ended(most));
+                .wait_timeout_while(rt, held, pause, |held| !held.has_ended());
             held = later;
         }
         let held = self.wanted.wait_while(rt, held, |held| {
-            !held.has_ended(most) && !held.wants_worker(most)
+            !held.has_ended() && !held.wants_worker()
         });
-        !held.has_ended(most)
+        !held.has_ended()
     }
 
     /// A worker is to be made: it counts as one that is at the door. It answers how many there are with it, and how
@@ -229,11 +228,10 @@ impl Means {
     /// begin until it is known whether the worker stays. So a look for memory takes none that they need. `None` once
     /// nobody more can be let in.
     pub fn expect_worker<R: Wait>(&self, rt: &R) -> Option<(u64, u64)> {
-        let (most, is_limited) = (self.most, self.supply.memory.is_some());
         let mut held = self.freed.wait_while(rt, self.held.lock(rt), |held| {
-            is_limited && held.beginning > 0 && !held.has_ended(most)
+            held.supply.memory.is_some() && held.beginning > 0 && !held.has_ended()
         });
-        if held.has_ended(most) {
+        if held.has_ended() {
             return None;
         }
         held.is_expected = true;

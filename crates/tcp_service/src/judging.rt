@@ -92,9 +92,10 @@ impl<G: ServiceGround> Context<'_, G> {
         let decision = match decide(self.alloc, pass.source(), self.missing, peer) {
             Ok(decision) => decision,
             Err(fault) => {
-                let up = self.given_up(&pass, peer, cause_of(fault));
+                let error = self.read_error(&pass);
+                // (one more look at the rules takes the descriptor that this one had)
                 drop(pass);
-                return Err(up);
+                return Err(self.given_up(cause_of(fault), error, peer));
             }
         };
         let Ok(environment) = build(self.alloc, self.plan.inherited(), local, peer, &decision)
@@ -119,16 +120,19 @@ impl<G: ServiceGround> Context<'_, G> {
         }
     }
 
-    // A connection is given up for this cause, since a decision by what it opened failed. The reason is why a read did,
-    // or which rule is damaged.
-    fn given_up(&self, pass: &Pass<G::Places, G::File>, peer: &Peer, cause: DropCause) -> GivenUp
+    // The system's number of the error by which the last read of an opened file failed, if it has one.
+    fn read_error(&self, pass: &Pass<G::Places, G::File>) -> Option<i32> {
+        self.rules.read_error(pass.source()?.file())
+    }
+
+    // A connection is given up for this cause, since its decision failed. The reason is this error of a read, or the
+    // rule that is damaged.
+    fn given_up(&self, cause: DropCause, error: Option<i32>, peer: &Peer) -> GivenUp
         ensures { result.cause ≡ cause }
     {
-        let reason = match (cause, pass.source()) {
-            (DropCause::ReadFault, Some(source)) => {
-                Reason::of_error(self.alloc, self.rules.read_error(source.file()))
-            }
-            (DropCause::Damaged, _) => self.rules.damaged_rule(self.alloc, peer).map(Reason::Rule),
+        let reason = match cause {
+            DropCause::ReadFault => Reason::of_error(self.alloc, error),
+            DropCause::Damaged => self.rules.damaged_rule(self.alloc, peer).map(Reason::Rule),
             _ => None,
         };
         GivenUp { cause, reason }

@@ -1,14 +1,15 @@
 //! What is told of a connection. Each of its events is made in a yard that all share. Before the yard's lock is let go
 //! the log is told of it, so that its lines stand in the order of events; only an opening has no lines. What the yard
 //! answered goes on with the connection, and in the end says that it is over.
-ghost use Rattle.std.specs.Prelude.{◌≡◌, ◌≢◌, IfErr, IfOk, None, OnErr, Some, is_ok, true};
+ghost use Rattle.std.specs.Prelude.{◌≡◌, ◌≢◌, IfErr, IfOk, List, None, OnErr, OnOk, Some, is_ok, true};
 ghost use Rattle.child_jobs.specs.declared.outcome.DropCause.TheVariants.{Banner, Denied, Directory};
 ghost use Rattle.server_events.specs.declared.event.Event.TheVariants as event;
-ghost use Rattle.server_log.specs.Reports.{Tells, reported_answer, reported_event};
+ghost use Rattle.server_events.specs.declared.state.Connection.{Connection};
+ghost use Rattle.server_log.specs.Reports.{Tells, TellsItsClient, reported_answer, reported_event};
 ghost use Rattle.server_yard.specs.Evidence.{asked_event, made_at};
 ghost use Rattle.server_yard.specs.Passes.{pass_serial};
 ghost use Rattle.server_yard.specs.Seating.{leaver};
-ghost use Rattle.server_yard.specs.Yards.{yard_books};
+ghost use Rattle.server_yard.specs.Yards.{yard_books, yard_server};
 ghost use Rattle.tcp_service.specs.Lives.{IsEndOf, retires};
 ghost use Rattle.tcp_service.specs.Openings.{Decides, opening_of};
 
@@ -89,6 +90,7 @@ impl<G: ServiceGround> Context<'_, G> {
         told: Told<'_>,
     ) -> Reported
         requires its { Tells told (asked_event answer) }
+        requires client { OnOk answer (TellsItsClient told (yard_server yard.now).connections) }
         requires just { IfOk answer (λ made. made_at made ≡ (yard_books yard.now).count) }
         ensures same { reported_answer result ≡ answer }
     {
@@ -99,7 +101,7 @@ impl<G: ServiceGround> Context<'_, G> {
     ///
     /// # Errors
     /// It may not be decided now, which counts as a fault of the directory.
-    #[tactic(auto, using(crate::proofs::Asked::asked_for, crate::proofs::Asked::told_as, crate::proofs::Asked::just_made))]
+    #[tactic(auto, using(crate::proofs::Asked::asked_for, crate::proofs::Asked::told_as, crate::proofs::Asked::just_made, crate::proofs::Asked::its_client))]
     pub(crate) fn decided(
         &self,
         pass: &Pass<G::Places, G::File>,
@@ -254,6 +256,7 @@ impl<G: ServiceGround> Context<'_, G> {
     fn gone(&self, serial: u64, place: Place<G::Places>, event: Event, told: Told<'_>) -> Reported
         requires goes { leaver event ≡ Some serial }
         requires its { Tells told event }
+        requires client { (connections : List Connection) → TellsItsClient told connections }
         ensures asked { reported_event result ≡ event }
     {
         let mut yard = self.yard.lock(self.rt);

@@ -1,4 +1,4 @@
--- A connection that opened the rules by a handle of its own, beside its yard, which is told of it later.
+-- A connection that opened the rules for itself, beside its yard, which is told of it later.
 use Rattle.std.specs.Prelude.{◌≡◌, ◌≢◌, ⊤, ℕ, Bool, true, false, not, List, [], ◌∷◌, Option, Some, is_some}
 use Rattle.server_events.specs.Live.{concerns_by}
 use Rattle.headline.specs.Processes.{Woven}

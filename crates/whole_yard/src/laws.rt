@@ -72,7 +72,7 @@ pub fn noted_leads()
 
 /// An opening that takes some time is as good as one at a moment of its call.
 ///
-/// It is made by `WholeYard::open`, or by a handle of the connection's own. Others go on meanwhile, and the yard's
+/// It is made by `WholeYard::open`, or by the connection for itself. Others go on meanwhile, and the yard's
 /// other connections too. It found what stood at that moment, and the yard is told of it later (`noted_leads`:
 /// `opened`). All is as if it had opened the rules at that moment, so the headline says that its decision is by the
 /// text that stood then.

@@ -7,7 +7,7 @@
 //!
 //! `WholeSite` is a whole yard under one lock, with callers that have a share each of its events. A server has a yard
 //! under a lock too, whose calls it makes itself; a whole site is handed a turn, a value that asks for one event. Its
-//! turns `Open`, `InstallBegin` and `InstallStep` are calls that a server leaves to handles and other processes, and
+//! turns `Open`, `InstallBegin` and `InstallStep` are calls that a server leaves to connections and other processes, and
 //! `OfConnection` makes those of `connection_turns`, which are calls that a server makes. Evidence of an event becomes
 //! its `Receipt`. `audit`, `audit_whole` and `close_and_audit` compare receipts with a history. `test_site` runs
 //! the turns and an audit.

@@ -1,5 +1,5 @@
 //! The turn by which the yard itself opens the rules for a connection. The server doesn't make it: there a connection
-//! opens them by a handle of its own (`Yard::opened`).
+//! opens them for itself (`Yard::opened`).
 ghost use Rattle.std.specs.Prelude.{◌≡◌, ◌↔◌, ⊤, false, Err, None, IsTrue, IfOk, OnErr, is_some};
 ghost use Rattle.server_events.specs.ServerState.{is_admitted, stage_of};
 ghost use Rattle.server_events.specs.declared.event.Event.TheVariants as event;
