@@ -74,7 +74,7 @@ def refused(folder):
     """The system refuses what an installation does in a folder."""
     os.chmod(folder.place, 0o555)
     folder.fails("a folder without write permission", b"fresh", preexec_fn=as_nobody)
-    os.chmod(folder.place, 0o733)
+    os.chmod(folder.place, 0o333)
     folder.fails("a folder that may be changed and not read", b"fresh", preexec_fn=as_nobody)
     os.chmod(folder.place, 0o755)
     folder.fails("a file that may not grow", b"filling", LONG, preexec_fn=limit_files)
