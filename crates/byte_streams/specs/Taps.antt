@@ -1,6 +1,7 @@
 -- What a tap sees.
-use Rattle.std.specs.Prelude.{◌≡◌, Bool, true, false, ℕ, List, [], ◌∷◌}
+use Rattle.std.specs.Prelude.{◌≡◌, Bool, true, false, ℕ, List, [], ◌∷◌, IsSomeAnd, MatchOption, Option, None, Some}
 use Rattle.byte_streams.specs.declared.recording.Way.{Way}
+use Rattle.byte_streams.specs.declared.recording.Way.TheVariants.{Input}
 
 -- it was shown these pieces, in this order, each once
 abbrev pub SeesAll : {T : Type 0} → (T → List ℕ → T → Type 0) → T → List (List ℕ) → T → Type 0
@@ -26,3 +27,11 @@ pub record Shown : Type 1 where
 abbrev pub shown_to : {T : Type 0} → (T → Way) → (T → List ℕ → T → Type 0) → (T → T → Type 0) → T → T → Shown
 shown_to watches sees ends old new =
     record { way = watches old; shows = λ at_end pieces. Watches sees ends at_end old pieces new }
+
+-- of a tap that may be left out: the way that it watches, and how it changes; without one nothing does
+abbrev pub watched_by : {T : Type 0} → (T → Way) → Option T → Way
+watched_by watches None = Input
+watched_by watches (Some tap) = watches tap
+
+abbrev pub changed_by : {T : Type 0} → (T → T → Type 0) → (old new : Option T) → Type 0
+changed_by changes old new = MatchOption old (new ≡ old) (λ tap. IsSomeAnd new (changes tap))

@@ -6,6 +6,7 @@ ghost use Rattle.byte_streams.specs.declared.recording.Way.TheVariants.{Input};
 ghost use Rattle.byte_streams.specs.Records.{end_text, longest_piece, record_text};
 ghost use Rattle.byte_streams.specs.declared.recording.TheConstants.{PIPE_BUF};
 ghost use Rattle.byte_streams.specs.Recorders.{Writes, has_failed, number_of, records_text, way_of, writer_of};
+ghost use Rattle.byte_streams.specs.Taps.{changed_by, watched_by};
 
 use crate::{Way, longest_piece, record, record_end};
 use std::alloc::Global;
@@ -58,6 +59,34 @@ impl Tap for NoTap {
     fn seen(&mut self, _piece: &[u8]) {}
 
     fn ended(&mut self) {}
+}
+
+/// A tap that may be left out: then nothing is looked at.
+impl<T: Tap> Tap for Option<T> {
+    ghost watches = { watched_by T.watches };
+
+    ghost sees = { λ old piece. changed_by (λ tap. T.sees tap piece) old };
+
+    ghost ends = { changed_by T.ends };
+
+    fn way(&self) -> Way {
+        match self {
+            Some(tap) => tap.way(),
+            None => Way::Input,
+        }
+    }
+
+    fn seen(&mut self, piece: &[u8]) {
+        if let Some(tap) = self {
+            tap.seen(piece);
+        }
+    }
+
+    fn ended(&mut self) {
+        if let Some(tap) = self {
+            tap.ended();
+        }
+    }
 }
 
 /// The tap of `recordio`: it writes the lines of `record` for each piece, and that of `record_end` at the end.

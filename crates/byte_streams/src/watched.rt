@@ -2,70 +2,38 @@
 ghost use Rattle.std.specs.Prelude.{◌≡◌};
 ghost use Rattle.byte_streams.specs.Watches.{left_under, reader_of, watch_of};
 
-use mio::unix::SourceFd;
-use mio::{Events, Interest, Poll, Token};
-use std::alloc::Global;
+use libc::net::{POLLERR, POLLIN, poll};
+use libc::types::pollfd;
 use std::io::{Read, Result};
-use std::net::Net;
 use std::os::fd::RawFd;
 
-/// The token of the input's events.
-const INPUT: Token = Token(0);
-
-/// The token of the pipe's events.
-const PIPE: Token = Token(1);
-
-/// How many events are taken at once: there are two descriptors.
-const EVENTS: usize = 2;
-
 /// Watches two descriptors at once: an input, and the pipe over which a program gets it.
-#[derive(Drop)]
+#[derive(Clone, Copy)]
 pub struct Watch {
-    poll: Poll,
-    events: Events,
     input: RawFd,
+    pipe: RawFd,
 }
 
 impl Watch {
     /// A watch of these two.
-    ///
-    /// `None` if one of them can't be watched: there was no memory, or the system has no watch of it. It has none of a
-    /// regular file, whose reads don't wait.
-    pub fn new(alloc: Global, net: &impl Net, input: RawFd, pipe: RawFd) -> Option<Watch> {
-        let events = Events::with_capacity(alloc, EVENTS).ok()?;
-        let poll = Poll::new(net).ok()?;
-        let registry = poll.registry();
-        // (whatever the pipe's interest, an event tells that nobody reads it any more)
-        let watches = registry
-            .register(&mut SourceFd(&input), INPUT, Interest::READABLE)
-            .is_ok()
-            && registry
-                .register(&mut SourceFd(&pipe), PIPE, Interest::PRIORITY)
-                .is_ok();
-        if !watches {
-            return None;
-        }
-        Some(Watch {
-            poll,
-            events,
-            input,
-        })
+    pub fn new(input: RawFd, pipe: RawFd) -> Watch {
+        Watch { input, pipe }
     }
 
-    // Waits until the input can be read, or nobody reads the pipe any more. It answers whether the pipe still has a
-    // reader.
-    fn wait(&mut self) -> bool {
+    // Waits until the input can be read, or nobody reads the pipe any more (poll(2)). It answers whether the pipe still
+    // has a reader, as far as the system tells.
+    fn wait(self) -> bool {
+        let watched = |fd, events| pollfd {
+            fd,
+            events,
+            revents: 0,
+        };
         for _ in 0..u64::MAX {
-            let registry = self.poll.registry();
-            // (so that an input which is ready is told once more)
-            let again = registry.reregister(&mut SourceFd(&self.input), INPUT, Interest::READABLE);
-            if again.is_err() || self.poll.poll(&mut self.events, None).is_err() {
-                return true;
+            let mut both = [watched(self.input, POLLIN), watched(self.pipe, 0)];
+            if poll(&mut both, -1) >= 0 {
+                return both[1].revents & POLLERR == 0;
             }
-            if self.events.iter().any(|event| event.token() == PIPE) {
-                return false;
-            }
-            if !self.events.is_empty() {
+            if os::errno() != libc::EINTR {
                 return true;
             }
         }
@@ -96,9 +64,7 @@ impl<R: Read> Read for Watched<R> {
     ghost remaining = { λ watched. left_under (watch_of watched) (R.remaining (reader_of watched)) };
 
     fn read(&mut self, buf: &mut [u8]) -> Result<usize> {
-        if let Some(watch) = &mut self.watch
-            && !watch.wait()
-        {
+        if self.watch.is_some_and(|watch| !watch.wait()) {
             return Ok(0);
         }
         self.reader.read(buf)

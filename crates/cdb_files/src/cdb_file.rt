@@ -76,13 +76,6 @@ impl<F: RulesFile> CdbFile<F> {
         CdbFile { file }
     }
 
-    /// The file that is read.
-    pub fn file(&self) -> &F
-        ensures { result.now ≡ self.now }
-    {
-        &self.file
-    }
-
     /// Whether so many bytes from a position on lie in the file.
     fn holds(&self, position: u64, len: u64) -> bool
         requires { position + len < 2 ^ 64 }

@@ -70,18 +70,13 @@ impl Notes {
 
     /// The last call, if it failed by an error of the system.
     pub(crate) fn last(&self) -> Option<DiskFailure> {
-        Some(DiskFailure {
-            on: self.on.get(),
-            error: error_in(&self.error)?,
-        })
-    }
-}
-
-/// The number of the error that is noted, if there is one.
-pub(crate) fn error_in(noted: &AtomicU32) -> Option<i32> {
-    match noted.load(Ordering::SeqCst) {
-        0 => None,
-        error => Some(error.cast_signed()),
+        match self.error.load(Ordering::SeqCst) {
+            0 => None,
+            error => Some(DiskFailure {
+                on: self.on.get(),
+                error: error.cast_signed(),
+            }),
+        }
     }
 }
 

@@ -2,7 +2,6 @@
 ghost use Rattle.std.specs.Prelude.{◌≡◌, length, IsTrue};
 
 use crate::disk::DiskFile;
-use crate::system_disk::SystemFile;
 use dir_calls::{DeviceFault, RulesFile};
 
 /// An opened file of a disk. Dropping it closes it. It is honest if its disk's files are.
@@ -22,13 +21,6 @@ impl<F: DiskFile + Drop> OsFile<F> {
         ensures { os_bytes F.bytes result ≡ F.bytes file }
     {
         OsFile { file, len }
-    }
-}
-
-impl OsFile<SystemFile> {
-    /// The system's number of the error (`errno`) of the last call of its folder, reads included, if that failed.
-    pub fn error(&self) -> Option<i32> {
-        self.file.error()
     }
 }
 

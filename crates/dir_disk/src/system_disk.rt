@@ -4,7 +4,7 @@ ghost use Rattle.dir_calls.specs.NoDirectory.{no_directory, not_honest};
 ghost use Rattle.dir_disk.specs.OsParts.{system_folder};
 
 use crate::disk::{Disk, DiskFile, Look};
-use crate::failure::{FailedOn, Notes, error_in, store};
+use crate::failure::{FailedOn, Notes, store};
 use crate::lock::{
     HIDDEN, Waits, check_file, check_onto, complete, is_taken, make_claimed, read_mask, take_free,
 };
@@ -66,13 +66,6 @@ pub struct SystemFile {
     file: File,
     // where it is noted how a read ended
     noted: Option<Arc<AtomicU32, Global>>,
-}
-
-impl SystemFile {
-    /// The system's number of the error of the last call of its folder, reads included, if that failed.
-    pub(crate) fn error(&self) -> Option<i32> {
-        error_in(self.noted.as_ref()?)
-    }
 }
 
 // Puts the path of a name in a folder into the room for one, which is enough for any name.

@@ -1,20 +1,8 @@
--- Where the rules file of a server stands, by its words.
+-- The path of a rules file, by the words of a server.
 use Rattle.std.specs.Prelude.{◌≡◌, ℕ, List, [], Option, None, Some}
 use Rattle.rule_lookup.specs.declared.decision.WhenMissing.{WhenMissing}
 use Rattle.rule_lookup.specs.declared.decision.WhenMissing.TheVariants.{Allow}
 use Rattle.rules_tools.specs.Paths.{IsSplit, folder_path}
-use Rattle.server_parts.specs.declared.rules_path.RulesPath.{RulesPath}
-use Rattle.server_words.specs.Plans.{ServerPlan}
-
--- its path, its name in its folder, and what is decided if there is no file
-abbrev pub rules_path : {R : Type 0} → RulesPath R → List ℕ
-rules_path at = at.path.now
-
-abbrev pub rules_name : {R : Type 0} → RulesPath R → Option (List ℕ)
-rules_name at = at.name
-
-abbrev pub rules_missing : {R : Type 0} → RulesPath R → WhenMissing
-rules_missing at = at.missing
 
 -- a name is the last part of a path
 abbrev pub IsNameIn : List ℕ → Option (List ℕ) → Type 0
@@ -26,9 +14,6 @@ IsNameIn path (Some name) = (folder : List ℕ) × IsSplit path folder name
 abbrev pub AreRulesAt : Option (List ℕ) → WhenMissing → (path : List ℕ) → (name : Option (List ℕ)) → (missing : WhenMissing) → Type 0
 AreRulesAt None told path name missing = (path ≡ []) × (name ≡ None) × (missing ≡ Allow)
 AreRulesAt (Some given) told path name missing = (path ≡ given) × IsNameIn given name × (missing ≡ told)
-
-abbrev pub AreRulesOf : {R : Type 0} → ServerPlan → RulesPath R → Type 0
-AreRulesOf words at = AreRulesAt words.rules words.missing (rules_path at) (rules_name at) (rules_missing at)
 
 -- the path of a folder is that of the folder in which another path leads to a file
 pub record IsFolderOfPath (path folder : List ℕ) : Type 0 where

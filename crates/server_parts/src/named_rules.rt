@@ -1,5 +1,6 @@
 //! Whether a compiled rules file has rules by name.
 use std::alloc::Global;
+use std::fs::{File, Files};
 use std::io::{self, BufReader, Read};
 
 /// So many bytes of a file are looked through at most.
@@ -11,9 +12,17 @@ const HEADER: u64 = 2048;
 /// The first four of eight bytes as a number, if all eight are read as one.
 const FIRST: u64 = 0xFFFF_FFFF;
 
-/// Whether a compiled file (https://cr.yp.to/cdb/cdb.txt) has a rule by a host's name (`=`) or a user (`@`). It reads
-/// at most 16 MiB, and answers `false` if a record can't be read or there is no memory.
-pub(crate) fn has_named_rule<F: Read + Drop>(alloc: Global, file: F) -> bool {
+/// Whether the compiled file (https://cr.yp.to/cdb/cdb.txt) at a path has a rule by a host's name (`=`) or a user
+/// (`@`). It reads at most 16 MiB, and answers `false` if a record can't be read or there is no memory.
+pub fn has_named_rule<R: Files<File = File>>(alloc: Global, files: &R, path: &str) -> bool {
+    // (to open something other than a file may take for ever)
+    let is_file = files.metadata(path).is_ok_and(|found| found.is_file());
+    if !is_file {
+        return false;
+    }
+    let Ok(file) = File::open(files, path) else {
+        return false;
+    };
     match BufReader::new(alloc, file) {
         Ok(mut reader) => has_name(&mut reader).unwrap_or(false),
         Err(_) => false,

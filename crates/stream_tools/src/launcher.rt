@@ -11,7 +11,7 @@ use std::fs::Files;
 use std::io;
 use std::io::{PipeReader, PipeWriter};
 use std::os::fd::{AsRawFd, OwnedFd, RawFd};
-use std::process::{ChildStdin, ChildStdout, Processes};
+use std::process::{ChildStdin, ChildStdout};
 
 /// Stands for this process's own descriptor, which a program is given as it is.
 const INHERITED: RawFd = -1;
@@ -20,15 +20,15 @@ const INHERITED: RawFd = -1;
 /// process's standard error. A program whose name has no slash is looked for, at each start, in the folders of the
 /// launcher's search path, whatever the variables say that the program is given.
 #[derive(Drop)]
-pub struct OsLauncher<'a, P> {
-    processes: &'a P,
+pub struct OsLauncher<'a, F> {
+    files: &'a F,
     search: &'a SearchPath,
 }
 
-impl<'a, P: Processes> OsLauncher<'a, P> {
-    /// A launcher over the system's processes, which looks for programs in these folders.
-    pub fn new(processes: &'a P, search: &'a SearchPath) -> OsLauncher<'a, P> {
-        OsLauncher { processes, search }
+impl<'a, F: Files> OsLauncher<'a, F> {
+    /// A launcher that makes pipes over these files, and looks for programs in these folders.
+    pub fn new(files: &'a F, search: &'a SearchPath) -> OsLauncher<'a, F> {
+        OsLauncher { files, search }
     }
 
     /// Starts a program whose standard input and output are both what this descriptor stands for. The job has no pipe
@@ -75,7 +75,7 @@ impl<'a, P: Processes> OsLauncher<'a, P> {
     }
 }
 
-impl<'a, P: Processes + Files> Launcher for OsLauncher<'a, P> {
+impl<'a, F: Files> Launcher for OsLauncher<'a, F> {
     type Job = OsJob;
 
     ghost may = { λ _ _ _. true };
@@ -94,8 +94,8 @@ impl<'a, P: Processes + Files> Launcher for OsLauncher<'a, P> {
         ensures environment { IfOk result (λ job. ⟦<OsJob as Job>⟧.environment job ≡ environment.now) }
         ensures ends { IfOk result (λ job. has_ends job ≡ true) }
     {
-        let (input, to) = new_pipe(self.processes)?;
-        let (from, output) = new_pipe(self.processes)?;
+        let (input, to) = new_pipe(self.files)?;
+        let (from, output) = new_pipe(self.files)?;
         let streams = (input.as_raw_fd(), output.as_raw_fd());
         let ends = (
             ChildStdin::from(OwnedFd::from(to)),

@@ -13,9 +13,8 @@ use std::fs::Files;
 use std::io;
 use std::io::{Printer, Write};
 use std::marker::PhantomData;
-use std::net::Net;
 use std::os::fd::{AsRawFd, RawFd};
-use std::process::{ChildStdin, ChildStdout, Processes};
+use std::process::{ChildStdin, ChildStdout};
 use std::rt::Env;
 use std::sync::Wait;
 use std::thread::Threads;
@@ -29,7 +28,7 @@ struct OverSystem<'a, R> {
     system: PhantomData<&'a R>,
 }
 
-impl<'a, R: Input + Print + Processes + Clock + Files + Sync> Between for OverSystem<'a, R>
+impl<'a, R: Input + Print + Clock + Files + Sync> Between for OverSystem<'a, R>
 where
     R::Reader: Send,
 {
@@ -71,7 +70,7 @@ impl ToldRun {
 /// As of `fix_between`.
 pub fn run_fixcrio<R>(rt: &R, words: &[Vec<u8>]) -> Result<Status, BetweenFailure>
 where
-    R: Env + Input + Print + AllocGlobal + Processes + Threads + Wait + Sync + Clock + Net + Files,
+    R: Env + Input + Print + AllocGlobal + Threads + Wait + Sync + Clock + Files,
     R::Reader: Send,
 {
     let alloc = rt.alloc();
@@ -83,7 +82,7 @@ where
         Patient::new(rt, io::writer(rt)),
     );
     let end = fix_between::<_, OverSystem<'_, R>, _>(rt, alloc, launcher, run, streams, |pipe| {
-        Watch::new(alloc, rt, STANDARD_INPUT, pipe.as_raw_fd())
+        Some(Watch::new(STANDARD_INPUT, pipe.as_raw_fd()))
     });
     drop(told);
     Ok(end?.status)
@@ -95,7 +94,7 @@ where
 /// As of `record_between`.
 pub fn run_recordio<R, E>(rt: &R, errors: E, words: &[Vec<u8>]) -> Result<Status, BetweenFailure>
 where
-    R: Env + Input + Print + AllocGlobal + Processes + Threads + Wait + Sync + Clock + Net + Files,
+    R: Env + Input + Print + AllocGlobal + Threads + Wait + Sync + Clock + Files,
     R::Reader: Send,
     E: Write + Copy + Send + Drop,
 {
@@ -115,7 +114,7 @@ where
         run,
         streams,
         writers,
-        |pipe| { Watch::new(alloc, rt, STANDARD_INPUT, pipe.as_raw_fd()) },
+        |pipe| { Some(Watch::new(STANDARD_INPUT, pipe.as_raw_fd())) },
     );
     drop(told);
     Ok(end?.status)

@@ -1,57 +1,18 @@
 //! The door: the value under whose lock connections are accepted and let in.
 ghost use Rattle.std.specs.Option.{ForSome};
-ghost use Rattle.std.specs.Prelude.{◌≡◌, ◌≢◌, ◌⊎◌, ◌↔◌, ◌+◌, ◌≤◌, None, Some, false, true, IfSome, IsTrue, min, pos};
-ghost use Rattle.tcp_connections.specs.Admissions.{LetsIn};
-ghost use Rattle.tcp_connections.specs.declared.serving.ServeEnd.TheVariants.{AcceptFaults, Count};
+ghost use Rattle.std.specs.Prelude.{◌≡◌, ◌≢◌, ◌⊎◌, ◌↔◌, ◌+◌, ◌≤◌, Some, false, true, IfSome, IsTrue, min};
+ghost use Rattle.tcp_connections.specs.Admissions.{LetsIn, suffices};
+ghost use Rattle.tcp_connections.specs.Ends.{asked_count, given_supply};
 
 use crate::accepting::{AcceptError, Acceptor};
 use crate::means::{Permit, pause_after};
-use crate::serving::{ServeEnd, Serving};
+use crate::served::{Faults, ServeEnd, Served};
+use crate::serving::Serving;
+use crate::supply::Supply;
 use std::time::Duration;
 
 /// So many faults of accepting in succession end a server.
 const MOST: u32 = 100;
-
-/// The system's number for want of descriptors (`EMFILE`).
-const TOO_MANY_FILES: i32 = 24;
-
-/// The faults of accepting that came in succession, since the last connection or since the server began. An error for
-/// want of room is no fault while a connection is served.
-#[derive(Clone, Copy)]
-pub struct Faults {
-    /// How many, up to a hundred.
-    pub count: u32,
-    // how many errors were for want of room, faults or not
-    lacking: u32,
-    /// The system's number of the last fault (`errno`), if it had one; or that for want of descriptors, if there were
-    /// too few for one connection.
-    pub last: Option<i32>,
-}
-
-impl Faults {
-    /// None came yet.
-    pub(crate) fn none() -> Faults
-        ensures none { result.count ≡ 0 }
-        ensures unknown { result.last ≡ None }
-    {
-        Faults {
-            count: 0,
-            lacking: 0,
-            last: None,
-        }
-    }
-
-    /// None came: there are too few descriptors for one connection.
-    pub(crate) fn of_too_few_descriptors() -> Faults
-        ensures none { result.count ≡ 0 }
-        ensures told { result.last ≡ Some (pos 24) }
-    {
-        Faults {
-            last: Some(TOO_MANY_FILES),
-            ..Faults::none()
-        }
-    }
-}
 
 /// The door: whoever has its lock waits for the next connection, and lets it in.
 #[derive(Drop)]
@@ -79,7 +40,7 @@ impl<'a, A: Acceptor<Came = V::Came> + Drop, V: Serving> Door<'a, A, V> {
             acceptor: Some(acceptor),
             let_in: 0,
             count,
-            faults: Faults::none(),
+            faults: Faults::default(),
         }
     }
 
@@ -141,13 +102,13 @@ impl<'a, A: Acceptor<Came = V::Came> + Drop, V: Serving> Door<'a, A, V> {
         self.faults.last = error.number;
     }
 
-    /// How the server ended, how many were let in, and the faults of accepting that came last. The acceptor is dropped.
-    pub fn into_end(self) -> (ServeEnd, u64, Faults)
-        ensures count { (result.0 ≡ Count) ↔ (V.count ≡ Some result.1) }
-        ensures no_more { ForSome V.count (λ most. result.1 ≤ most) }
-        ensures let_in { result.1 ≡ self.entry.let_in }
-        ensures kept { result.2 ≡ self.entry.faults }
-        ensures faults { result.0 ≡ AcceptFaults → result.2.count ≡ 100 }
+    /// What the server did, of what `supply` gave it, once it has come to its end. The acceptor is dropped.
+    pub fn into_served(self, supply: Supply) -> Served
+        requires suffices { IsTrue (suffices supply) }
+        ensures count { asked_count result ≡ V.count }
+        ensures supply { given_supply result ≡ supply }
+        ensures let_in { result.let_in ≡ self.entry.let_in }
+        ensures kept { result.faults ≡ self.entry.faults }
     {
         let Door {
             server: _,
@@ -164,7 +125,13 @@ impl<'a, A: Acceptor<Came = V::Came> + Drop, V: Serving> Door<'a, A, V> {
         } else {
             ServeEnd::Exhausted
         };
-        (end, let_in, faults)
+        Served {
+            end,
+            let_in,
+            faults,
+            count,
+            supply,
+        }
     }
 }
 

@@ -83,7 +83,7 @@ impl Held {
         self.alive < self.most
             && descriptors <= supply.descriptors
             && self.beginning < supply.at_once()
-            && !(self.is_expected && supply.memory.is_some())
+            && !(self.is_expected && supply.is_limited())
     }
 
     // Whether nobody more can be let in: the server is over, all are retired, or there is no worker, and there can be
@@ -229,7 +229,7 @@ impl Means {
     /// nobody more can be let in.
     pub fn expect_worker<R: Wait>(&self, rt: &R) -> Option<(u64, u64)> {
         let mut held = self.freed.wait_while(rt, self.held.lock(rt), |held| {
-            held.supply.memory.is_some() && held.beginning > 0 && !held.has_ended()
+            held.supply.is_limited() && held.beginning > 0 && !held.has_ended()
         });
         if held.has_ended() {
             return None;

@@ -1,17 +1,6 @@
 //! What lets connections in and serves them.
 ghost use Rattle.std.specs.Prelude.{ℕ, Option, IfSome};
 
-/// How a server ended.
-#[derive(Clone, Copy)]
-pub enum ServeEnd {
-    /// It let in as many connections as it was to serve.
-    Count,
-    /// A hundred faults of accepting came in succession, or there were too few descriptors for one connection.
-    AcceptFaults,
-    /// Nobody more can be served: all places are retired, or there was no memory or no thread for it.
-    Exhausted,
-}
-
 /// Lets connections in, and serves them. A connection is a value that each call takes, and gives on to the next.
 pub trait Serving {
     /// A connection that came.

@@ -70,43 +70,29 @@ impl Supply {
     pub(crate) fn has_reserve(&self) -> bool {
         !self.memory.is_some_and(|memory| memory.is_low)
     }
-}
 
-/// Looks whether there is memory for connections, if that is limited.
-#[derive(Drop)]
-pub(crate) struct MemoryLook {
-    alloc: Global,
-    supply: Supply,
-}
-
-impl MemoryLook {
-    /// No look was made yet.
-    pub fn new(alloc: Global, supply: Supply) -> MemoryLook {
-        MemoryLook { alloc, supply }
+    // Whether memory is limited.
+    pub(crate) fn is_limited(&self) -> bool {
+        self.memory.is_some()
     }
 
-    /// Whether memory is limited.
-    pub fn is_limited(&self) -> bool {
-        self.supply.memory.is_some()
+    // Whether there is memory for the connections of this many workers. If memory is low, `has_stack` has looked
+    // already.
+    pub(crate) fn has_connections(&self, alloc: Global, workers: usize) -> bool {
+        !self.has_reserve() || self.has_memory(alloc, workers, 0)
     }
 
-    /// Whether there is memory for the connections of this many workers. If memory is low, `has_stack` has looked
-    /// already.
-    pub fn has_connections(&self, workers: usize) -> bool {
-        !self.supply.has_reserve() || self.has(workers, 0)
-    }
-
-    /// Whether there is memory for one more worker's thread and for all connections. This looks only if memory is low:
-    /// the C library keeps what threads took that are over, and a program would lack it.
-    pub fn has_stack(&self, workers: usize) -> bool {
-        self.supply.has_reserve() || self.has(workers, THREAD)
+    // Whether there is memory for one more worker's thread and for all connections. This looks only if memory is low:
+    // the C library keeps what threads took that are over, and a program would lack it.
+    pub(crate) fn has_stack(&self, alloc: Global, workers: usize) -> bool {
+        self.has_reserve() || self.has_memory(alloc, workers, THREAD)
     }
 
     // Whether there is memory for the connections of this many workers and for this many bytes more, if it is limited.
     // What the system tells is compared with the limits. To ask the C library for so much might take it for good: it
     // keeps what one thread got, and a program would lack it. If the system tells nothing, it is asked all the same.
-    fn has(&self, workers: usize, beside: usize) -> bool {
-        let Some(memory) = self.supply.memory else {
+    fn has_memory(&self, alloc: Global, workers: usize, beside: usize) -> bool {
+        let Some(memory) = self.memory else {
             return true;
         };
         let all = memory
@@ -117,15 +103,15 @@ impl MemoryLook {
             .saturating_sub(RESERVED);
         match Taken::now() {
             Some(taken) => taken.leaves(all as u64, memory),
-            None => Vec::<u8>::with_capacity(self.alloc, all).is_ok(),
+            None => Vec::<u8>::with_capacity(alloc, all).is_ok(),
         }
     }
 
-    /// A new thread begins. If memory is limited it asks for some, so that the C library reserves now what it reserves
-    /// for a thread.
-    pub fn begin_thread(&self) {
+    // A new thread begins. If memory is limited it asks for some, so that the C library reserves now what it reserves
+    // for a thread.
+    pub(crate) fn begin_thread(&self, alloc: Global) {
         if self.is_limited() {
-            drop(Vec::<u8>::with_capacity(self.alloc, 64));
+            drop(Vec::<u8>::with_capacity(alloc, 64));
         }
     }
 }

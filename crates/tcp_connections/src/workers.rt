@@ -1,15 +1,14 @@
 //! Workers: each lets one connection after another in, and serves it up to the start of its program or to its end.
-ghost use Rattle.std.specs.Option.{ForSome};
-ghost use Rattle.std.specs.Prelude.{◌≡◌, ◌≤◌, false, IsTrue, Some, pos};
+ghost use Rattle.std.specs.Prelude.{◌≡◌};
 ghost use Rattle.std.specs.Thread.{IsSend, IsSync};
-ghost use Rattle.tcp_connections.specs.Admissions.{FailedToAccept, suffices};
-ghost use Rattle.tcp_connections.specs.declared.serving.ServeEnd.TheVariants.{AcceptFaults, Count};
+ghost use Rattle.tcp_connections.specs.Ends.{asked_count, given_supply};
 
 use crate::accepting::{AcceptError, Acceptor};
-use crate::door::{Door, Faults};
+use crate::door::Door;
 use crate::means::{Means, Permit};
-use crate::serving::{ServeEnd, Serving};
-use crate::supply::{MemoryLook, Reserve, Supply};
+use crate::served::Served;
+use crate::serving::Serving;
+use crate::supply::{Reserve, Supply};
 use crate::threads::{connection_thread, has_processes, start_waiting};
 use std::alloc::Global;
 use std::sync::{Mutex, Wait};
@@ -28,9 +27,8 @@ pub struct Workers<'a, R, V: Serving, A> {
     server: &'a V,
     // whoever has its lock waits for the next connection, and lets it in
     door: Mutex<Door<'a, A, V>>,
-    memory: MemoryLook,
-    // whether there is memory for a process in reserve
-    has_reserve: bool,
+    alloc: Global,
+    supply: Supply,
     means: &'a Means,
     reserve: &'a Reserve,
 }
@@ -46,14 +44,11 @@ where
     V: Serving + Sync,
     A: Acceptor<Came = V::Came> + Send + Drop,
 {
-    /// Lets connections of `acceptor` in until `count` were let in or no more can be. Then it drops the acceptor, waits
-    /// until all that were let in are over, and answers how many these were, and the faults of accepting that came
-    /// last. At most `most` connections are alive at once. Each worker accepts one, lets it in, and serves it until its
-    /// program runs. While few are served, the worker waits for that program too. Otherwise a new thread does, and ends
-    /// with the connection. This thread makes one more worker whenever none waits for a connection.
-    ///
-    /// By faults of accepting it ends only if a hundred came since the last connection, or if `supply` has too few
-    /// descriptors for one connection.
+    /// Lets connections of `acceptor` in until `count` were let in or no more can be. Then it drops the acceptor, and
+    /// waits until all that were let in are over. At most `most` connections are alive at once. Each worker accepts
+    /// one, lets it in, and serves it until its program runs. While few are served, the worker waits for that program
+    /// too. Otherwise a new thread does, and ends with the connection. This thread makes one more worker whenever none
+    /// waits for a connection.
     pub fn serve_through(
         rt: &'a R,
         alloc: Global,
@@ -63,32 +58,29 @@ where
         count: Option<u32>,
         supply: Supply,
         reserve: &'a Reserve,
-    ) -> (ServeEnd, u64, Faults)
+    ) -> Served
         requires most { V.most ≡ most }
         requires count { V.count ≡ count }
-        ensures count { result.0 ≡ Count → count ≡ Some result.1 }
-        ensures no_more { ForSome count (λ most. result.1 ≤ most) }
-        ensures reached { IsTrue (suffices supply) → count ≡ Some result.1 → result.0 ≡ Count }
-        ensures faults { result.0 ≡ AcceptFaults → FailedToAccept (suffices supply) result.2.count }
-        ensures lacking { suffices supply ≡ false → result.2.last ≡ Some (pos 24) }
+        ensures count { asked_count result ≡ count }
+        ensures supply { given_supply result ≡ supply }
     {
         if !supply.suffices() {
             drop(acceptor);
-            return (ServeEnd::AcceptFaults, 0, Faults::of_too_few_descriptors());
+            return Served::without_descriptors(count, supply);
         }
         let means = Means::new(supply, most);
         let workers = Workers {
             rt,
             server,
             door: Mutex::new(Door::new(server, acceptor, count)),
-            memory: MemoryLook::new(alloc, supply),
-            has_reserve: supply.has_reserve(),
+            alloc,
+            supply,
             means: &means,
             reserve,
         };
         workers.run();
         let Workers { door, .. } = workers;
-        door.into_inner().into_end()
+        door.into_inner().into_served(supply)
     }
 
     // Lets connections in until the server comes to an end, and waits until all that were let in are over.
@@ -100,7 +92,9 @@ where
             move |scope|
                 requires { IsSync R.row × IsSync V.row × IsSend V.Alive.row × IsSend A.row }
             {
-                if !workers.has_reserve || !start_waiting(scope, workers.rt, workers.reserve) {
+                if !workers.supply.has_reserve()
+                    || !start_waiting(scope, workers.rt, workers.reserve)
+                {
                     workers.reserve.give_back(workers.rt);
                 }
                 workers.make_workers(scope);
@@ -126,7 +120,9 @@ where
             return;
         };
         let workers = usize::try_from(workers).unwrap_or(usize::MAX);
-        if !self.memory.has_stack(workers) || !self.start_worker(scope, workers, beginning) {
+        if !self.supply.has_stack(self.alloc, workers)
+            || !self.start_worker(scope, workers, beginning)
+        {
             self.means.worker_came(self.rt, false);
         }
     }
@@ -152,8 +148,8 @@ where
     // A new worker stays if there is what the connections of so many workers take beside those that begin. Then it
     // works.
     fn come_to_work<'s, 'e>(&'s self, scope: &'s Scope<'s, &'e ()>, number: usize, beginning: u64) {
-        self.memory.begin_thread();
-        let stays = self.memory.has_connections(number)
+        self.supply.begin_thread(self.alloc);
+        let stays = self.supply.has_connections(self.alloc, number)
             && has_programs(self.rt, self.reserve, beginning);
         self.means.worker_came(self.rt, stays);
         if stays {
@@ -244,7 +240,7 @@ where
             permit,
         };
         // (a thread for it takes memory and a process, of which there is plenty)
-        let has_plenty = !self.memory.is_limited() && !self.reserve.is_gone(self.rt);
+        let has_plenty = !self.supply.is_limited() && !self.reserve.is_gone(self.rt);
         if is_one_of_many && has_plenty {
             start_going_on(scope, going_on);
         } else {

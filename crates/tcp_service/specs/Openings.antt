@@ -1,8 +1,10 @@
 -- What a connection finds when it opens the rules.
-use Rattle.std.specs.Prelude.{◌≡◌, ℕ, Bool, List, Option, Result, Ok, option_map}
+use Rattle.std.specs.Prelude.{◌≡◌, ℕ, Bool, IsTrue, List, Option, None, Some, Result, Ok, option_map}
 use Rattle.cdb_files.specs.Reading.{reading}
 use Rattle.child_jobs.specs.declared.outcome.DropCause.{DropCause}
 use Rattle.child_jobs.specs.declared.outcome.DropCause.TheVariants as cause
+use Rattle.dir_calls.specs.Directory.{Directory, content}
+use Rattle.dir_calls.specs.declared.dir.Dir.{Ghosts}
 use Rattle.dir_calls.specs.declared.fault.DirFault.{DirFault}
 use Rattle.dir_calls.specs.declared.fault.DirFault.TheVariants as directory
 use Rattle.rule_lookup.specs.Decisions.{DecisionFails, decision_from}
@@ -15,6 +17,7 @@ use Rattle.rule_lookup.specs.declared.decision.WhenMissing.{WhenMissing}
 use Rattle.rule_lookup.specs.declared.source.FindFault.TheVariants as find
 use Rattle.server_yard.specs.Passes.{pass_bytes, trust_in}
 use Rattle.server_yard.specs.declared.pass.Pass.{Pass}
+use Rattle.tcp_service.specs.declared.host.Rules.{Ghosts as Places}
 
 -- the bytes of the rules file, or that there is none, and what is decided without one
 pub record Opening : Type 0 where
@@ -25,10 +28,22 @@ pub record Opening : Type 0 where
 abbrev pub opening_of : {L F : Type 0} → (F → List ℕ) → WhenMissing → Pass L F → Opening
 opening_of bytes missing pass = record { bytes = pass_bytes bytes pass; missing = missing }
 
--- the rules were opened for the connection with this serial, and this stood there; without a file this is decided
-pub record IsFoundFor (opened : ℕ → Option (List ℕ) → Type 0) (missing : WhenMissing) (serial : ℕ) (found : Opening)
-    : Type 0 where
-  pub stood : opened serial found.bytes
+-- what stood under a name in such a folder, as far as that is known; without a name there is nothing
+abbrev pub StoodIn : {D : Type 0} (its : D → Type 0) (honest : Bool) → (D → Directory) → (name there : Option (List ℕ))
+    → Type 0
+StoodIn its honest state None there = there ≡ None
+StoodIn {D} its honest state (Some name) there =
+    (folder : D) × its folder × (IsTrue honest → there ≡ content (state folder) name)
+
+-- what stood where the rules stand, when they were opened for the connection with this serial
+abbrev pub StoodFor : {R D F : Type 0} → Places R D → Ghosts D F → R → (serial : ℕ) → Option (List ℕ) → Type 0
+StoodFor places folders rules serial there =
+    StoodIn (places.its rules serial) folders.honest folders.state (places.named rules) there
+
+-- this was found for a connection; without a file this is decided
+pub record IsFoundFor {R D F : Type 0} (places : Places R D) (folders : Ghosts D F) (rules : R) (missing : WhenMissing)
+    (serial : ℕ) (found : Opening) : Type 0 where
+  pub stood : StoodFor places folders rules serial found.bytes
   pub without : found.missing ≡ missing
 
 -- what it decides of a peer: by the first lookup form that the file has

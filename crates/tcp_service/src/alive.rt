@@ -49,23 +49,23 @@ impl<H: Host> Server<'_, H> {
         place: Place<H::Places>,
         judged: Judged,
     ) -> Result<(Alive<H>, Begun), Over>
-        requires may { MayStart (IsFoundFor (H.Rules.opened self.now.context.rules.now) H.Places.missing)
+        requires may { MayStart (IsFoundFor H.Rules.Rules H.Folder.Dir self.now.context.rules.now H.Places.missing)
             H.File.honest H.File.sound (greeted_identity greeted) self.now.context.plan.now
             (H.Connection.may (greeted_connection greeted)) }
         requires allowed { IsDecided
-            (IsFoundFor (H.Rules.opened self.now.context.rules.now) H.Places.missing)
+            (IsFoundFor H.Rules.Rules H.Folder.Dir self.now.context.rules.now H.Places.missing)
             H.File.honest H.File.sound (greeted_identity greeted) self.now.context.plan.now
             (noted_event judged.noted) Allow judged.environment }
         ensures own { IfOk result (λ r. r.0.serial ≡ (greeted_identity greeted.entry).serial) }
         ensures place { IfOk result (λ r. place_of r.0.running ≡ place) }
         ensures told { IfOk result (λ r. begun_last r.1 ≡ event.Started (greeted_identity greeted.entry).serial) }
         ensures child { IfOk result (λ r. IsChild
-            (IsFoundFor (H.Rules.opened self.now.context.rules.now) H.Places.missing)
+            (IsFoundFor H.Rules.Rules H.Folder.Dir self.now.context.rules.now H.Places.missing)
             H.File.honest H.File.sound (greeted_identity greeted.entry) self.now.context.plan.now (begun_decided r.1)
             (H.Job.program (job_of r.0.running)) (H.Job.environment (job_of r.0.running))) }
         ensures over { IfErr result (λ over. over.serial ≡ (greeted_identity greeted.entry).serial) }
         ensures reason { IfErr result (λ over. FailsToStart
-            (IsFoundFor (H.Rules.opened self.now.context.rules.now) H.Places.missing)
+            (IsFoundFor H.Rules.Rules H.Folder.Dir self.now.context.rules.now H.Places.missing)
             H.File.honest H.File.sound (greeted_identity greeted.entry) self.now.context.plan.now
             (H.Connection.refuses (greeted_connection greeted.entry)) (noted_event judged.noted) (over_end over)) }
         ensures noted { IfErr result (λ over. over_decided over ≡ Some (noted_event judged.noted)) }

@@ -1,12 +1,10 @@
-//! What a server stands on, and how its connections open the rules, each for itself.
-ghost use Rattle.std.specs.Prelude.{ℕ, List, Option, IfOk};
-ghost use Rattle.std.specs.Option.{option_map};
+//! What a server stands on, and where its rules stand.
+ghost use Rattle.std.specs.Prelude.{◌≡◌, ℕ, List, Option, IfOk, option_copied};
 
 use child_jobs::{Job, Launcher};
-use dir_calls::{DirFault, RulesFile};
-use rule_lookup::Peer;
+use dir_calls::{Dir, Name, RulesFile};
 use server_yard::Places;
-use std::alloc::Global;
+use std::alloc::{AllocError, Global};
 use std::io::Write;
 use std::sync::Wait;
 
@@ -21,11 +19,14 @@ pub trait ServiceGround {
     /// A rules file that a connection has opened.
     type File: RulesFile + Drop;
 
-    /// Where the rules stand that each connection opens for itself.
-    type Rules: Rules<Self::File>;
+    /// The folder in which it opens the file. Each connection has a value of its own.
+    type Folder: Dir<File = Self::File> + Drop;
+
+    /// Where the rules stand.
+    type Rules: Rules<Self::Folder>;
 
     /// What takes the lines of the log.
-    type Lines: Write;
+    type Lines: Write + Drop;
 }
 
 /// What a server stands on: a type for each thing that its connections are served with. A host is a name for these
@@ -42,35 +43,29 @@ pub trait Host: ServiceGround {
     type Job: Job;
 }
 
-/// Why the rules could not be opened.
-#[derive(Clone, Copy)]
-pub struct OpenFailure {
-    /// `OutOfMemory`; any other is a call of the system that failed.
-    pub fault: DirFault,
-    /// The system's number of the error (`errno`), if it has one.
-    pub error: Option<i32>,
-}
+/// Where the rules stand. Each connection opens them for itself, and nobody else waits meanwhile.
+pub trait Rules<D> {
+    /// Whether a folder is theirs, as the connection with this serial number has it.
+    ghost its: { Self → (serial : ℕ) → D → Type 0 };
 
-/// Where the rules stand that each connection opens for itself. Nobody else waits meanwhile.
-pub trait Rules<F: RulesFile + Drop> {
-    /// They were opened for the connection with this serial number, and this stood there: a file of these bytes, or
-    /// nothing.
-    ghost opened: { Self → (serial : ℕ) → Option (List ℕ) → Type 0 };
+    /// Their name in it, if they have one.
+    ghost named: { Self → Option (List ℕ) };
 
-    /// What stands under the rules name, for the connection with this serial number.
+    /// Their folder, for the connection with this serial number. The system is not called.
     ///
     /// # Errors
-    /// There was no memory, or a call of the system failed.
-    fn open(&self, alloc: Global, serial: u64) -> Result<Option<F>, OpenFailure>
-        ensures found { IfOk result (λ file. opened self.now serial (option_map F.bytes file)) };
+    /// There was no memory.
+    fn folder(&self, alloc: Global, serial: u64) -> Result<D, AllocError>
+        ensures its { IfOk result (its self.now serial) };
 
-    /// The system's number of the error (`errno`) by which the last read of a file failed, if it has one.
-    fn read_error(&self, file: &F) -> Option<i32>;
+    /// Their name in it; without a name there are no rules.
+    fn name(&self) -> Option<&Name>
+        ensures named { option_copied result ≡ named self.now };
+
+    /// The system's number of the error (`errno`) by which the last call of a folder or of its file failed, if it has
+    /// one.
+    fn error(&self, folder: &D) -> Option<i32>;
 
     /// The path of the rules file as it was given; empty where there is none.
     fn path(&self) -> &str;
-
-    /// The address of the rule that is met first for this client, if that rule is damaged. It is found by one more look
-    /// at what stands there now; `None` if it is not found again.
-    fn damaged_rule(&self, alloc: Global, peer: &Peer) -> Option<String>;
 }

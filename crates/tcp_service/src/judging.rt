@@ -1,18 +1,19 @@
 //! How a connection is decided: by what it finds when it opens the rules. No other connection waits while the rules are
 //! opened, read or closed.
+ghost use Rattle.std.specs.Option.{option_map};
 ghost use Rattle.std.specs.Prelude.{◌≡◌, [], IfErr, IfOk};
 ghost use Rattle.server_yard.specs.Passes.{pass_serial};
 ghost use Rattle.tcp_service.specs.Ends.{noted_event};
-ghost use Rattle.tcp_service.specs.Openings.{IsFoundFor, cause_of, cause_of_open, opening_of};
+ghost use Rattle.tcp_service.specs.Openings.{IsFoundFor, StoodFor, cause_of, cause_of_open, opening_of};
 ghost use Rattle.tcp_service.specs.Servings.{FailsFor, GivesUp, IsDecided};
 
 use crate::guest::{Greeted, Identity};
-use crate::host::{OpenFailure, Rules, ServiceGround};
+use crate::host::{Rules, ServiceGround};
 use crate::reasons::{GivenUp, Reason};
 use crate::server::Context;
 use crate::telling::Noted;
 use child_jobs::{DropCause, Environment, build};
-use dir_calls::DirFault;
+use dir_calls::{Dir, DirFault};
 use rule_lookup::{DecideFault, FindFault, Peer, Verdict, decide};
 use server_yard::Pass;
 
@@ -22,6 +23,12 @@ pub(crate) struct Judged {
     pub verdict: Verdict,
     pub environment: Environment,
 }
+
+// What was opened for a connection: its pass, and the folder of the rules, if they have a name there.
+type Opened<G> = (
+    Pass<<G as ServiceGround>::Places, <G as ServiceGround>::File>,
+    Option<<G as ServiceGround>::Folder>,
+);
 
 // The cause with which a connection is dropped if the rules can't be opened.
 fn cause_of_open(fault: DirFault) -> DropCause
@@ -47,26 +54,51 @@ fn cause_of(fault: DecideFault) -> DropCause
 impl<G: ServiceGround> Context<'_, G> {
     ghost use Rattle.tcp_service.specs.Greetings.{greeted_identity, greeted_with};
 
+    // What stands under the name of the rules, for the connection with this serial number, and the folder in which it
+    // was opened. Without a name no call of a folder is made.
+    #[tactic(auto, using(crate::proofs::Found::stood_there))]
+    fn find(&self, serial: u64) -> Result<(Option<G::File>, Option<G::Folder>), GivenUp>
+        ensures found { IfOk result (λ r. StoodFor G.Rules.Rules G.Folder.Dir self.now.rules.now serial
+            (option_map G.File.bytes r.0)) }
+        ensures given_up { IfErr result (λ up. GivesUp (λ _. ⊥) [] up.cause) }
+    {
+        let Some(name) = self.rules.name() else {
+            return Ok((None, None));
+        };
+        let Ok(mut folder) = self.rules.folder(self.alloc, serial) else {
+            return Err(GivenUp::by(DropCause::Memory));
+        };
+        match folder.open(self.alloc, name) {
+            Ok(file) => Ok((file, Some(folder))),
+            Err(fault) => {
+                let error = self.rules.error(&folder);
+                drop(folder);
+                Err(GivenUp {
+                    cause: cause_of_open(fault),
+                    reason: Reason::of_error(self.alloc, error),
+                })
+            }
+        }
+    }
+
     // Opens the rules for a connection, after its client was greeted. If it may not open them now, that counts as a
     // fault of the directory.
     #[tactic(auto, using(crate::proofs::Found::found_for))]
-    fn open<X>(&self, greeted: &Greeted<'_, X>) -> Result<Pass<G::Places, G::File>, GivenUp>
+    fn open<X>(&self, greeted: &Greeted<'_, X>) -> Result<Opened<G>, GivenUp>
         requires greeted { greeted_with greeted.now ≡ self.now.plan.now.banner }
-        ensures its { IfOk result (λ pass. pass_serial pass ≡ (greeted_identity greeted.now).serial) }
-        ensures found { IfOk result (λ pass. IsFoundFor (G.Rules.opened self.now.rules.now) G.Places.missing
-            (greeted_identity greeted.now).serial (opening_of G.File.bytes G.Places.missing pass)) }
+        ensures its { IfOk result (λ r. pass_serial r.0 ≡ (greeted_identity greeted.now).serial) }
+        ensures found { IfOk result (λ r. IsFoundFor G.Rules.Rules G.Folder.Dir self.now.rules.now G.Places.missing
+            (greeted_identity greeted.now).serial (opening_of G.File.bytes G.Places.missing r.0)) }
         ensures given_up { IfErr result (λ up. GivesUp (λ _. ⊥) [] up.cause) }
     {
         let serial = greeted.identity.serial;
-        match self.rules.open(self.alloc, serial) {
-            Ok(file) => match self.yard.lock(self.rt).opened(serial, file) {
-                Ok((pass, _)) => Ok(pass),
-                Err(_) => Err(GivenUp::by(DropCause::Directory)),
-            },
-            Err(OpenFailure { fault, error }) => Err(GivenUp {
-                cause: cause_of_open(fault),
-                reason: Reason::of_error(self.alloc, error),
-            }),
+        let (file, folder) = self.find(serial)?;
+        match self.shared.lock(self.rt).yard.opened(serial, file) {
+            Ok((pass, _)) => Ok((pass, folder)),
+            Err(_) => {
+                drop(folder);
+                Err(GivenUp::by(DropCause::Directory))
+            }
         }
     }
 
@@ -79,25 +111,24 @@ impl<G: ServiceGround> Context<'_, G> {
     pub(crate) fn decide<X>(&self, greeted: &Greeted<'_, X>) -> Result<Judged, GivenUp>
         requires greeted { greeted_with greeted.now ≡ self.now.plan.now.banner }
         ensures judged { IfOk result (λ judged. IsDecided
-            (IsFoundFor (G.Rules.opened self.now.rules.now) G.Places.missing)
+            (IsFoundFor G.Rules.Rules G.Folder.Dir self.now.rules.now G.Places.missing)
             G.File.honest G.File.sound (greeted_identity greeted.now) self.now.plan.now
             (noted_event judged.noted) judged.verdict judged.environment) }
-        ensures given_up { IfErr result (λ up. GivesUp
-            (FailsFor (IsFoundFor (G.Rules.opened self.now.rules.now) G.Places.missing
-            (greeted_identity greeted.now).serial)
+        ensures given_up { IfErr result (λ up. GivesUp (FailsFor
+            (IsFoundFor G.Rules.Rules G.Folder.Dir self.now.rules.now G.Places.missing (greeted_identity greeted.now).serial)
             G.File.honest G.File.sound (greeted_identity greeted.now).peer) [] up.cause) }
     {
-        let pass = self.open(greeted)?;
+        let (pass, folder) = self.open(greeted)?;
         let Identity { peer, local, .. } = &greeted.identity;
         let decision = match decide(self.alloc, pass.source(), self.missing, peer) {
             Ok(decision) => decision,
             Err(fault) => {
-                let error = self.read_error(&pass);
                 // (one more look at the rules takes the descriptor that this one had)
                 drop(pass);
-                return Err(self.given_up(cause_of(fault), error, peer));
+                return Err(self.given_up(cause_of(fault), folder, peer));
             }
         };
+        drop(folder);
         let Ok(environment) = build(self.alloc, self.plan.inherited(), local, peer, &decision)
         else {
             drop(pass);
@@ -120,21 +151,20 @@ impl<G: ServiceGround> Context<'_, G> {
         }
     }
 
-    // The system's number of the error by which the last read of an opened file failed, if it has one.
-    fn read_error(&self, pass: &Pass<G::Places, G::File>) -> Option<i32> {
-        self.rules.read_error(pass.source()?.file())
-    }
-
-    // A connection is given up for this cause, since its decision failed. The reason is this error of a read, or the
-    // rule that is damaged.
-    fn given_up(&self, cause: DropCause, error: Option<i32>, peer: &Peer) -> GivenUp
+    // A connection is given up for this cause, since its decision failed. The reason is the error of its last read in
+    // this folder, or the rule that is damaged.
+    fn given_up(&self, cause: DropCause, folder: Option<G::Folder>, peer: &Peer) -> GivenUp
         ensures { result.cause ≡ cause }
     {
+        let (Some(mut folder), Some(name)) = (folder, self.rules.name()) else {
+            return GivenUp::by(cause);
+        };
         let reason = match cause {
-            DropCause::ReadFault => Reason::of_error(self.alloc, error),
-            DropCause::Damaged => self.rules.damaged_rule(self.alloc, peer).map(Reason::Rule),
+            DropCause::ReadFault => Reason::of_error(self.alloc, self.rules.error(&folder)),
+            DropCause::Damaged => Reason::of_damage(self.alloc, &mut folder, name, peer),
             _ => None,
         };
+        drop(folder);
         GivenUp { cause, reason }
     }
 }

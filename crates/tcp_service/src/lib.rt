@@ -18,5 +18,5 @@ pub mod server;
 pub mod serving;
 pub mod telling;
 
-pub use host::{Host, OpenFailure, Rules, ServiceGround};
-pub use server::{Context, Server};
+pub use host::{Host, Rules, ServiceGround};
+pub use server::{Context, LoggedYard, Server};

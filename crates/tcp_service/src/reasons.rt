@@ -2,8 +2,10 @@
 ghost use Rattle.std.specs.Prelude.{◌≡◌};
 
 use byte_text::words_of_error;
+use cdb_files::CdbFile;
 use child_jobs::DropCause;
-use rule_lookup::{Decision, Found, Verdict};
+use dir_calls::{Dir, Name};
+use rule_lookup::{DecideFault, Decision, Found, Peer, RuleSource, Verdict, forms};
 use server_log::Cause;
 use std::alloc::Global;
 
@@ -46,6 +48,25 @@ impl Reason {
     /// The rules could not be opened or read by this error of the system, if it has a number and there is memory.
     pub(crate) fn of_error(alloc: Global, error: Option<i32>) -> Option<Reason> {
         Some(Reason::Rules(words_of(alloc, error)?))
+    }
+
+    /// The rule that is damaged: the first of a client's addresses under which the file of this name in a folder has
+    /// something now, if that is no instruction. `None` too if the file can't be read, or there is no memory.
+    pub(crate) fn of_damage<D: Dir>(
+        alloc: Global,
+        folder: &mut D,
+        name: &Name,
+        peer: &Peer,
+    ) -> Option<Reason> {
+        let file = CdbFile::new(folder.open(alloc, name).ok()??);
+        for address in forms(alloc, peer).ok()? {
+            match file.find_instr(alloc, address.as_bytes()) {
+                Ok(None) => {}
+                Err(DecideFault::Code(_)) => return Some(Reason::Rule(address)),
+                _ => return None,
+            }
+        }
+        None
     }
 
     /// The cause for the log, for rules at this path.

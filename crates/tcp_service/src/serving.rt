@@ -37,11 +37,7 @@ pub struct Admitted<H: Host> {
 impl<H> Serving for Server<'_, H>
 where
     H: Host,
-    H::Runtime: Sync,
     H::Places: Send + Sync,
-    H::File: Send,
-    H::Rules: Sync,
-    H::Lines: Send,
     H::Connection: Send,
     H::Job: Send,
 {
@@ -65,7 +61,7 @@ where
         let context = &self.context;
         let Some((peer, local)) = ends_of(context.alloc, context.names, &came) else {
             drop(came);
-            let _ = context.log.lock(context.rt).out_of_memory();
+            let _ = context.shared.lock(context.rt).log.out_of_memory();
             return None;
         };
         let Some((serial, place, admitted)) = admit(context, &peer) else {
@@ -100,12 +96,12 @@ where
         ensures place { IfOk result (λ alive. place_of alive.running ≡ admitted.place) }
         // the decided program, with the decided environment
         ensures child { IfOk result (λ alive. IsDecidedChild
-            (IsFoundFor (H.Rules.opened self.now.context.rules.now) H.Places.missing)
+            (IsFoundFor H.Rules.Rules H.Folder.Dir self.now.context.rules.now H.Places.missing)
             H.File.honest H.File.sound (guest_identity admitted.guest) self.now.context.plan.now
             (H.Job.program (job_of alive.running)) (H.Job.environment (job_of alive.running))) }
         ensures over { IfErr result (λ over. over.serial ≡ (guest_identity admitted.guest).serial) }
         ensures reason { IfErr result (λ over. EndsFor
-            (IsFoundFor (H.Rules.opened self.now.context.rules.now) H.Places.missing)
+            (IsFoundFor H.Rules.Rules H.Folder.Dir self.now.context.rules.now H.Places.missing)
             H.File.honest H.File.sound (guest_identity admitted.guest) self.now.context.plan.now
             (RefusesGreeted H.Connection.contents self.now.context.plan.now.banner
             H.Connection.refuses (guest_connection admitted.guest)) (over_decided over) (over_end over)) }
@@ -187,17 +183,17 @@ type Admission<L> = (u64, Place<L>, Reported);
 fn admit<G: ServiceGround>(context: &Context<'_, G>, peer: &Peer) -> Option<Admission<G::Places>>
     ensures own { IfSome result (λ r. IsAdmitted r.0 peer.now r.2) }
 {
-    let mut yard = context.yard.lock(context.rt);
-    match yard.admit(peer) {
+    let mut shared = context.shared.lock(context.rt);
+    match shared.yard.admit(peer) {
         Ok((serial, place, made)) => {
             let ip = peer.ip();
-            let admitted = context.report(&yard, Ok(made), Told::Admitted { serial, ip });
-            drop(yard);
+            let admitted = shared.report(Ok(made), Told::Admitted { serial, ip });
+            drop(shared);
             Some((serial, place, admitted))
         }
         Err(fault) => {
-            let _ = context.log.lock(context.rt).refused(peer.ip(), fault);
-            drop(yard);
+            let _ = shared.log.refused(peer.ip(), fault);
+            drop(shared);
             None
         }
     }

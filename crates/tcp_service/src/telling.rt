@@ -1,15 +1,13 @@
 //! What is told of a connection. Each of its events is made in a yard that all share. Before the yard's lock is let go
 //! the log is told of it, so that its lines stand in the order of events; only an opening has no lines. What the yard
 //! answered goes on with the connection, and in the end says that it is over.
-ghost use Rattle.std.specs.Prelude.{◌≡◌, ◌≢◌, IfErr, IfOk, List, None, OnErr, OnOk, Some, is_ok, true};
+ghost use Rattle.std.specs.Prelude.{◌≡◌, ◌≢◌, IfErr, IfOk, List, None, OnErr, Some, is_ok, true};
 ghost use Rattle.child_jobs.specs.declared.outcome.DropCause.TheVariants.{Banner, Denied, Directory};
 ghost use Rattle.server_events.specs.declared.event.Event.TheVariants as event;
 ghost use Rattle.server_events.specs.declared.state.Connection.{Connection};
 ghost use Rattle.server_log.specs.Reports.{Tells, TellsItsClient, reported_answer, reported_event};
-ghost use Rattle.server_yard.specs.Evidence.{asked_event, made_at};
 ghost use Rattle.server_yard.specs.Passes.{pass_serial};
 ghost use Rattle.server_yard.specs.Seating.{leaver};
-ghost use Rattle.server_yard.specs.Yards.{yard_books, yard_server};
 ghost use Rattle.tcp_service.specs.Lives.{IsEndOf, retires};
 ghost use Rattle.tcp_service.specs.Openings.{Decides, opening_of};
 
@@ -21,7 +19,7 @@ use child_jobs::{DropCause, Exit, Job, NotStarted, Place, Running};
 use rule_lookup::Decision;
 use server_events::Event;
 use server_log::{Cause, Reported, Told};
-use server_yard::{Made, OutOfTurn, Pass, Yard};
+use server_yard::Pass;
 use std::snapshot::Snapshot;
 
 /// The evidence that a connection's decision was noted. The language lets nobody drop it: what becomes of the
@@ -82,21 +80,6 @@ impl<G: ServiceGround> Context<'_, G> {
     ghost use Rattle.tcp_service.specs.Ends.{begun_decided, begun_last, noted_event, over_decided, over_end};
     ghost use Rattle.tcp_service.specs.Greetings.{cut_identity, cut_with, greeted_identity, greeted_with};
 
-    /// Tells the log what this yard has just answered of an event. Nothing else happened there since.
-    pub(crate) fn report(
-        &self,
-        yard: &Yard<G::Places>,
-        answer: Result<Made, OutOfTurn>,
-        told: Told<'_>,
-    ) -> Reported
-        requires its { Tells told (asked_event answer) }
-        requires client { OnOk answer (TellsItsClient told (yard_server yard.now).connections) }
-        requires just { IfOk answer (λ made. made_at made ≡ (yard_books yard.now).count) }
-        ensures same { reported_answer result ≡ answer }
-    {
-        self.log.lock(self.rt).report(yard, answer, told)
-    }
-
     /// The connection that opened this was decided so.
     ///
     /// # Errors
@@ -121,10 +104,10 @@ impl<G: ServiceGround> Context<'_, G> {
             peer,
             file: cause_of_absence(self.rules.path(), &decision),
         };
-        let mut yard = self.yard.lock(self.rt);
-        let answer = yard.decided(pass, peer, decision);
-        let decision = self.report(&yard, answer, told);
-        drop(yard);
+        let mut shared = self.shared.lock(self.rt);
+        let answer = shared.yard.decided(pass, peer, decision);
+        let decision = shared.report(answer, told);
+        drop(shared);
         if decision.was_made() {
             Ok(Noted { decision })
         } else {
@@ -146,10 +129,10 @@ impl<G: ServiceGround> Context<'_, G> {
     {
         let Noted { decision } = noted;
         let process = running.process();
-        let mut yard = self.yard.lock(self.rt);
-        let answer = yard.started(serial, running);
-        let last = self.report(&yard, answer, Told::Started { serial, process });
-        drop(yard);
+        let mut shared = self.shared.lock(self.rt);
+        let answer = shared.yard.started(serial, running);
+        let last = shared.report(answer, Told::Started { serial, process });
+        drop(shared);
         Begun {
             decided: Snapshot::of(&decision),
             last: Snapshot::of(&last),
@@ -259,10 +242,10 @@ impl<G: ServiceGround> Context<'_, G> {
         requires client { (connections : List Connection) → TellsItsClient told connections }
         ensures asked { reported_event result ≡ event }
     {
-        let mut yard = self.yard.lock(self.rt);
-        let answer = yard.left(serial, place, event);
-        let reported = self.report(&yard, answer, told);
-        drop(yard);
+        let mut shared = self.shared.lock(self.rt);
+        let answer = shared.yard.left(serial, place, event);
+        let reported = shared.report(answer, told);
+        drop(shared);
         reported
     }
 
@@ -290,10 +273,10 @@ impl<G: ServiceGround> Context<'_, G> {
                 Over::of(serial, false, None, last)
             }
             Err(running) => {
-                let mut yard = self.yard.lock(self.rt);
-                let answer = yard.retired(serial, running);
-                let last = self.report(&yard, answer, Told::Retired { serial });
-                drop(yard);
+                let mut shared = self.shared.lock(self.rt);
+                let answer = shared.yard.retired(serial, running);
+                let last = shared.report(answer, Told::Retired { serial });
+                drop(shared);
                 Over::of(serial, true, None, last)
             }
         }

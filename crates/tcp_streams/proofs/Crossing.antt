@@ -10,7 +10,6 @@ use Rattle.byte_streams.specs.contracts.patient.Patient as Patient
 use Rattle.byte_streams.specs.contracts.tap.Recorder as Recorder
 use Rattle.stream_tools.specs.contracts.job.OsJob as OsJob
 use Rattle.tcp_streams.specs.contracts.lanes.Lane as Lane
-use Rattle.tcp_streams.specs.contracts.lanes.WayTap as WayTap
 use Rattle.tcp_streams.specs.contracts.passing.Passage as Passage
 use Rattle.tcp_streams.specs.contracts.programs.ServiceJob as ServiceJob
 use Rattle.tcp_streams.specs.contracts.wrappers.Wrapper as Wrapper
@@ -28,16 +27,13 @@ module _ (W : RattleType) (w : IsSend W) where
   recorder_send : IsSend (Recorder.the_row W)
   recorder_send = search (sendable, crosses) depth 20
 
-  tap_send : IsSend (WayTap.the_row W)
-  tap_send = let r = recorder_send in search (sendable, crosses) depth 20
-
   lane_send : IsSend (Lane.the_row W)
   lane_send = declared_send (Lane.the_type W) (
     search (sendable, crosses) depth 20,
     (
       chain_send,
       (
-        tap_send,
+        (let r = recorder_send in search (sendable, crosses) depth 20),
         (
           search (sendable, crosses) depth 20,
           (

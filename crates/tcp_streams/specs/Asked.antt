@@ -4,7 +4,7 @@ use Rattle.byte_streams.specs.declared.recording.Way.TheVariants.{Input, Output}
 use Rattle.server_words.specs.declared.mode.Mode.{Mode}
 use Rattle.server_words.specs.declared.mode.Mode.TheVariants.{HandedOver, Pumped}
 use Rattle.server_words.specs.Plans.{ServerPlan}
-use Rattle.tcp_streams.specs.Taps.{Records}
+use Rattle.tcp_streams.specs.Recorders.{Records}
 use Rattle.tcp_streams.specs.Wrappers.{IsNewChain}
 use Rattle.tcp_streams.specs.declared.passing.Passage.{Passage}
 use Rattle.tcp_streams.specs.declared.passing.Passing.{Passing}
@@ -57,5 +57,5 @@ passage_of job = option_map (λ passage. passage.value) job.passage
 pub record IsNewPassage {R E : Type 0} (passing : Passing) (port : ℕ) (passage : Passage R E) : Type 0 where
   pub input : IsNewChain passing.input.now passage.upward.chain
   pub output : IsNewChain passing.output.now passage.downward.chain
-  pub recorded_input : Records passing.recording port Input passage.upward.tap
-  pub recorded_output : Records passing.recording port Output passage.downward.tap
+  pub recorded_input : Records passing.recording port Input passage.upward.recorder
+  pub recorded_output : Records passing.recording port Output passage.downward.recorder

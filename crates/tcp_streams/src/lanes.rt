@@ -1,59 +1,30 @@
 //! One way of a pumped connection, from a stream to another one. No call of it waits.
 ghost use Rattle.std.specs.Prelude.{◌≡◌, ◌<◌, IfOk, length};
-ghost use Rattle.tcp_streams.specs.Taps.{Recorded, Records};
+ghost use Rattle.tcp_streams.specs.Recorders.{Records};
 ghost use Rattle.tcp_streams.specs.Wrappers.{IsNewChain};
 
 use crate::wrappers::{Wrapper, chain_of};
-use byte_streams::{Chain, Recorder, Tap, Way, Why, new_room, pump_once};
+use byte_streams::{Chain, Recorder, Way, Why, new_room, pump_once};
 use server_words::LineWrapperName;
 use std::alloc::{AllocError, Global};
 use std::io;
 use std::io::{Error, ErrorKind, Read, Write};
 
-/// Records one way of a connection, if it is recorded.
-#[derive(Drop)]
-pub(crate) struct WayTap<W> {
-    pub way: Way,
-    pub recorder: Option<Recorder<W>>,
-}
-
-impl<W: Write + Drop> WayTap<W> {
-    /// That of a way, which is recorded with this number to `writer` if that is asked for.
-    pub fn new(alloc: Global, is_recorded: bool, number: u64, way: Way, writer: W) -> WayTap<W>
-        ensures { Records is_recorded number way result }
-    {
-        if is_recorded {
-            let recorder = Some(Recorder::new(alloc, number, way, writer));
-            return WayTap { way, recorder };
-        }
-        drop(writer);
-        let recorder = None;
-        WayTap { way, recorder }
+/// What records a way of a connection with this number to `writer`, if it is recorded.
+pub(crate) fn recorder_if<W: Write + Drop>(
+    is_recorded: bool,
+    alloc: Global,
+    number: u64,
+    way: Way,
+    writer: W,
+) -> Option<Recorder<W>>
+    ensures { Records is_recorded number way result }
+{
+    if is_recorded {
+        return Some(Recorder::new(alloc, number, way, writer));
     }
-}
-
-impl<W: Write> Tap for WayTap<W> {
-    ghost watches = { λ tap. tap.way };
-
-    ghost sees = { λ old piece. Recorded (λ recorder. ⟦<Recorder<W> as Tap>⟧.sees recorder piece) old };
-
-    ghost ends = { Recorded ⟦<Recorder<W> as Tap>⟧.ends };
-
-    fn way(&self) -> Way {
-        self.way
-    }
-
-    fn seen(&mut self, piece: &[u8]) {
-        if let Some(recorder) = &mut self.recorder {
-            recorder.seen(piece);
-        }
-    }
-
-    fn ended(&mut self) {
-        if let Some(recorder) = &mut self.recorder {
-            recorder.ended();
-        }
-    }
+    drop(writer);
+    None
 }
 
 /// One way of a connection: what is read goes through line wrappers, and what they give is written. What the writer
@@ -62,7 +33,7 @@ impl<W: Write> Tap for WayTap<W> {
 pub(crate) struct Lane<W> {
     alloc: Global,
     chain: Chain<Wrapper>,
-    tap: WayTap<W>,
+    recorder: Option<Recorder<W>>,
     // room for a read
     room: Vec<u8>,
     kept: Vec<u8>,
@@ -80,17 +51,17 @@ impl<W: Write + Drop> Lane<W> {
     pub fn new(
         alloc: Global,
         names: &[LineWrapperName],
-        tap: WayTap<W>,
+        recorder: Option<Recorder<W>>,
     ) -> Result<Lane<W>, AllocError>
         ensures new { IfOk result (λ lane. IsNewChain names.now lane.chain) }
-        ensures tap { IfOk result (λ lane. lane.tap ≡ tap) }
+        ensures recorder { IfOk result (λ lane. lane.recorder ≡ recorder) }
     {
         let chain = chain_of(alloc, names)?;
         let room = new_room(alloc)?;
         Ok(Lane {
             alloc,
             chain,
-            tap,
+            recorder,
             room,
             kept: Vec::new(alloc),
             is_open: true,
@@ -135,7 +106,7 @@ impl<W: Write + Drop> Lane<W> {
             &mut reader,
             &mut writer,
             &mut self.chain,
-            &mut self.tap,
+            &mut self.recorder,
             &mut self.room,
         );
         let KeepingWriter { to: _, kept } = writer;

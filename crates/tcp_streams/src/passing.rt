@@ -3,7 +3,7 @@ ghost use Rattle.std.specs.Prelude.{◌≡◌, IfOk, true};
 ghost use Rattle.stream_tools.specs.Jobs.{has_ends};
 ghost use Rattle.tcp_streams.specs.Asked.{IsNewPassage};
 
-use crate::lanes::{Lane, WayTap};
+use crate::lanes::{Lane, recorder_if};
 use byte_streams::{Patient, Way};
 use child_jobs::Job;
 use libc::net::{_SS_SIZE, POLLERR, POLLHUP, POLLIN, POLLOUT};
@@ -12,7 +12,7 @@ use server_words::{LineWrapperName, Mode};
 use std::alloc::{AllocError, Global};
 use std::io::{Read, Write};
 use std::net::TcpStream;
-use std::os::fd::{AsRawFd, OwnedFd};
+use std::os::fd::AsRawFd;
 use std::process::{ChildStdin, ChildStdout};
 use std::sync::Wait;
 use std::thread;
@@ -101,22 +101,11 @@ impl<'a, R: Wait + Clock, E: Write + Copy + Drop> Passage<'a, R, E> {
         ensures new { IfOk result (λ passage. IsNewPassage passing.now port passage.value) }
     {
         let (recording, number) = (passing.recording, u64::from(port));
-        let tap = WayTap::new(
-            alloc,
-            recording,
-            number,
-            Way::Input,
-            Patient::new(rt, errors),
-        );
-        let upward = Lane::new(alloc, passing.input, tap)?;
-        let tap = WayTap::new(
-            alloc,
-            recording,
-            number,
-            Way::Output,
-            Patient::new(rt, errors),
-        );
-        let downward = Lane::new(alloc, passing.output, tap)?;
+        let errors = (Patient::new(rt, errors), Patient::new(rt, errors));
+        let recorder = recorder_if(recording, alloc, number, Way::Input, errors.0);
+        let upward = Lane::new(alloc, passing.input, recorder)?;
+        let recorder = recorder_if(recording, alloc, number, Way::Output, errors.1);
+        let downward = Lane::new(alloc, passing.output, recorder)?;
         let passage = Passage {
             rt,
             client,
@@ -152,17 +141,14 @@ impl<'a, R: Wait + Clock, E: Write + Copy + Drop> Passage<'a, R, E> {
         self.output = None;
     }
 
-    // From now on no call of a stream waits. The mode is one of a descriptor, whatever it is of.
+    // From now on no call of a stream waits.
     fn begin(&mut self, input: ChildStdin, output: ChildStdout) {
-        let (input, output) = (
-            TcpStream::from(OwnedFd::from(input)),
-            TcpStream::from(OwnedFd::from(output)),
-        );
-        for stream in [&self.client, &input, &output] {
-            let _ = stream.set_nonblocking(true);
+        let _ = self.client.set_nonblocking(true);
+        for end in [input.as_raw_fd(), output.as_raw_fd()] {
+            let _ = os::set_nonblocking(end, true);
         }
-        self.input = Some(ChildStdin::from(OwnedFd::from(input)));
-        self.output = Some(ChildStdout::from(OwnedFd::from(output)));
+        self.input = Some(input);
+        self.output = Some(output);
     }
 
     // Waits until something can pass, and passes it. Whether nothing could for as long as it waited.

@@ -11,7 +11,6 @@ use std::fs::Files;
 use std::io::Write;
 use std::net::TcpStream;
 use std::os::fd::OwnedFd;
-use std::process::Processes;
 use std::sync::Wait;
 use std::time::Clock;
 use std::{io, thread};
@@ -37,11 +36,11 @@ pub struct ProgramStarter<'a, R, E> {
     errors: E,
 }
 
-impl<'a, R: Processes + Files + Wait + Clock, E: Write + Copy + Drop> ProgramStarter<'a, R, E> {
+impl<'a, R: Files + Wait + Clock, E: Write + Copy + Drop> ProgramStarter<'a, R, E> {
     ghost use Rattle.tcp_streams.specs.Asked.{passing_of};
 
-    /// A starter over the system's processes, which looks for programs in these folders. The bytes of their connections
-    /// pass in this way, and are recorded to `errors`.
+    /// A starter that looks for programs in these folders. The bytes of their connections pass in this way, and are
+    /// recorded to `errors`.
     pub fn new(
         rt: &'a R,
         search: &'a SearchPath,
@@ -74,24 +73,14 @@ impl<'a, R: Processes + Files + Wait + Clock, E: Write + Copy + Drop> ProgramSta
         ensures ends { IfOk result (λ job. has_ends job ≡ is_none stream.entry) }
     {
         for waits in 0..WAITS {
-            match self.start_once(alloc, program, environment, stream) {
-                Err(
-                    NotStarted {
-                        error: Some(libc::EAGAIN),
-                        ..
-                    },
-                ) => {
-                    self.reserve.give_back(self.rt);
-                    thread::sleep(self.rt, pause_after(waits + 1));
-                }
-                Err(
-                    NotStarted {
-                        error: Some(libc::EMFILE | TOO_MANY_FILES_AT_ALL),
-                        ..
-                    },
-                ) => thread::sleep(self.rt, pause_after(waits + 1)),
+            let error = match self.start_once(alloc, program, environment, stream) {
+                Err(NotStarted { error, .. }) if is_passing(error) => error,
                 outcome => return outcome,
+            };
+            if error == Some(libc::EAGAIN) {
+                self.reserve.give_back(self.rt);
             }
+            thread::sleep(self.rt, pause_after(waits + 1));
         }
         self.start_once(alloc, program, environment, stream)
     }
@@ -114,6 +103,14 @@ impl<'a, R: Processes + Files + Wait + Clock, E: Write + Copy + Drop> ProgramSta
             None => launcher.start(alloc, program, environment),
         }
     }
+}
+
+// Whether a start may succeed later that failed by this error: the system had no process, or no descriptor.
+fn is_passing(error: Option<i32>) -> bool {
+    matches!(
+        error,
+        Some(libc::EAGAIN | libc::EMFILE | TOO_MANY_FILES_AT_ALL)
+    )
 }
 
 /// A connection that was accepted: what is written to it goes to its client, until its program is started. It is closed
@@ -139,7 +136,7 @@ impl<R, E> Write for Connection<'_, R, E> {
 
 impl<'a, R, E> Launcher for Connection<'a, R, E>
 where
-    R: Processes + Files + Wait + Clock,
+    R: Files + Wait + Clock,
     E: Write + Copy + Drop,
 {
     ghost use Rattle.tcp_streams.specs.Asked.{IsNewPassage, connection_starter, passage_of, passing_of, port_of, pumps};

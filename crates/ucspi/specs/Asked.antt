@@ -13,7 +13,7 @@ use Rattle.ucspi.specs.declared.serving.ServerParts.{ServerParts}
 
 -- a server has the plan of each connection; the limits of `-c`, `-k` and `-m`; names by `-N`, `-l`, `-h`, `-H` and `-p`;
 -- what a connection takes that is handed over or pumped, and how its bytes pass
-pub record AreAsked {W : Type 0} (words : ServerPlan) (server : ServerParts W) : Type 0 where
+pub record AreAsked (words : ServerPlan) (server : ServerParts) : Type 0 where
   pub planned : IsAskedPlan words server.plan
   pub limited : server.limits ≡ words.limits
   pub named : AreNamesOf words server.names

@@ -8,12 +8,12 @@
 //! `tcpserver` stands here too, in `tool` and `serving`: the service of `tcp_service` over the system's sockets, files
 //! and programs, as its words ask for it. `System` has what it uses of the system, and `OnSystem` is the host of its
 //! service. `parts_of`, `yard_of`, `log_of` and `open_socket` are proved to make what the words ask for
-//! (`specs/Asked.antt`), and the calls behind them take nothing else. Only the log goes on under a lock, whose content
-//! no clause knows. That `run_in_yard` lends all to `serve`, and what is printed and exited with, is read here and
-//! tested with real clients. `run_tcpserver` refuses words with a fault, and ends well only by a `Finished`.
+//! (`specs/Asked.antt`), and the calls behind them take nothing else. Only of the log no clause says so. That
+//! `run_in_yard` lends all to `serve`, and what is printed and exited with, is read here and tested with real clients.
+//! `run_tcpserver` refuses words with a fault, and ends well only by a `Finished`.
 //!
-//! At the end of a server `at_end` compares the connections alive with the retired ones, and the admissions with how
-//! many were let in; `end_of` reports a difference as `lost connection`. The events of its yard are a run, of which
+//! At the end of a server `end_of` compares the connections alive with the retired ones, and the admissions with how
+//! many were let in, and reports a difference as `lost connection`. The events of its yard are a run, of which
 //! `whole_yard::laws::whole_run` speaks.
 #![tactic(auto)]
 

@@ -2,8 +2,9 @@
 ghost use Rattle.std.specs.Prelude.{◌≡◌, ⊤, ℕ, List, IfOk, IfErr};
 ghost use Rattle.server_parts.specs.declared.fault.ServerFault.TheVariants.{CannotListen};
 
-use crate::rules::FolderRules;
+use crate::rules::SystemRules;
 use byte_streams::Patient;
+use dir_disk::OsDir;
 use server_parts::opening::listen;
 use server_parts::{RulesOnDisk, ServerFailure};
 use server_yard::Places;
@@ -11,7 +12,6 @@ use std::fs::{File, Files};
 use std::io::{Read, Write};
 use std::marker::PhantomData;
 use std::net::{Net, OpenListener, TcpStream};
-use std::process::{ChildStdin, OpenProcess, Processes};
 use std::rt::Env;
 use std::sync::{Mutex, Wait};
 use std::thread::Threads;
@@ -21,37 +21,21 @@ use tcp_streams::{Connection, ServiceJob};
 
 /// What the tool has of the system. It is a name for these types together, and has no values.
 pub(crate) trait System {
-    /// The runtime, with the system's files and processes.
+    /// The runtime, with the system's files and threads.
     type Runtime: Env
         + Print
         + AllocGlobal
         + Files<File = File, Dir = Self::Folder>
-        + Processes<Started = Self::Process>
         + Threads
         + Wait
         + Clock
         + Sync;
 
-    /// A folder that is open.
+    /// A folder that is open. None goes to another thread, but the prover asks for each type of the runtime.
     type Folder: Read + Send + Sync + Drop;
 
     /// A socket that listens.
     type Listener: OpenListener<Stream = TcpStream> + Send + Drop;
-
-    /// A program that was started, with the ends of its pipes.
-    type Process: OpenProcess<
-        Stdin = ChildStdin,
-        Stdout = Self::ProcessOutput,
-        Stderr = Self::ProcessErrors,
-    >
-        + Send
-        + Drop;
-
-    /// The end of a pipe that a program writes.
-    type ProcessOutput: Read + Send + Drop;
-
-    /// The end of the pipe to which it writes its errors.
-    type ProcessErrors: Read + Send + Drop;
 
     /// What takes what is recorded of connections.
     type Errors: Write + Copy + Send + Sync + Drop;
@@ -76,13 +60,10 @@ pub(crate) struct SystemOf<'a, R, E>(PhantomData<(&'a R, Mutex<E>)>);
 
 impl<'a, R, E> System for SystemOf<'a, R, E>
 where
-    R: Env + Print + AllocGlobal + Files<File = File> + Processes + Threads + Wait + Clock + Sync,
+    R: Env + Print + AllocGlobal + Files<File = File> + Threads + Wait + Clock + Sync,
     R: Net<Stream = TcpStream>,
     R::Dir: Send + Sync,
     R::Listener: Send,
-    R::Started: OpenProcess<Stdin = ChildStdin> + Send,
-    <R::Started as OpenProcess>::Stdout: Send,
-    <R::Started as OpenProcess>::Stderr: Send,
     E: Write + Copy + Send + Sync + Drop,
 {
     type Runtime = R;
@@ -90,12 +71,6 @@ where
     type Folder = R::Dir;
 
     type Listener = R::Listener;
-
-    type Process = R::Started;
-
-    type ProcessOutput = <R::Started as OpenProcess>::Stdout;
-
-    type ProcessErrors = <R::Started as OpenProcess>::Stderr;
 
     type Errors = E;
 
@@ -111,19 +86,21 @@ where
 /// What a server stands on, over this ledger.
 pub(crate) struct OnSystem<'a, P: System, L>(PhantomData<(&'a P::Runtime, &'a P::Errors, L)>);
 
-impl<'a, P: System, L: Places + Send + Sync> ServiceGround for OnSystem<'a, P, L> {
+impl<'a, P: System, L: Places> ServiceGround for OnSystem<'a, P, L> {
     type Runtime = P::Runtime;
 
     type Places = L;
 
     type File = RulesOnDisk;
 
-    type Rules = FolderRules<'a, P::Runtime>;
+    type Folder = OsDir<&'a P::Runtime>;
+
+    type Rules = SystemRules<'a, P::Runtime>;
 
     type Lines = P::Lines;
 }
 
-impl<'a, P: System, L: Places + Send + Sync> Host for OnSystem<'a, P, L> {
+impl<'a, P: System, L: Places> Host for OnSystem<'a, P, L> {
     type Connection = Connection<'a, P::Runtime, P::Errors>;
 
     type Job = ServiceJob<'a, P::Runtime, P::Errors>;

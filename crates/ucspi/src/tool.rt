@@ -2,9 +2,9 @@
 ghost use Rattle.std.specs.Prelude.{◌≡◌, ◌⊎◌, false, map, IfOk, IfErr};
 ghost use Rattle.fault_hints.specs.Voices.{mode_by_name};
 ghost use Rattle.server_parts.specs.Asked.{FailsNames};
-ghost use Rattle.server_parts.specs.RulesPaths.{AreRulesOf, rules_missing};
 ghost use Rattle.server_parts.specs.declared.fault.ServerFault.TheVariants.{CannotListen, OutOfMemory, WriteFault};
 ghost use Rattle.ucspi.specs.Asked.{AcceptsAsAsked, AreAsked, AreLimits, IsAskedLog};
+ghost use Rattle.ucspi.specs.Rules.{AreRulesOf, rules_missing};
 ghost use Rattle.ucspi.specs.Words.{AnswersWords};
 ghost use Rattle.server_words.specs.Operands.{texts};
 ghost use Rattle.server_words.specs.Plans.{plan_of as plan_by_words};
@@ -13,7 +13,7 @@ ghost use Rattle.stream_tools.specs.Programs.{text_in, texts_of};
 ghost use Rattle.tcp_streams.specs.Asked.{IsAskedPassing, passing_of};
 
 use crate::ends::Finished;
-use crate::rules::FolderRules;
+use crate::rules::SystemRules;
 use crate::serving::{ServerParts, serve};
 use crate::system::{OnSystem, System, SystemOf};
 use byte_streams::Patient;
@@ -22,9 +22,10 @@ use server_events::Journal;
 use server_log::Log;
 use server_parts::causes::tell_failure;
 use server_parts::limits::supply_for;
+use server_parts::named_rules::has_named_rule;
 use server_parts::opening::{hold_standard, names_of, plan_of, print_port};
 use server_parts::signals::forgets_programs;
-use server_parts::{RulesPath, ServerFailure, ServerFault, TcpserverFault};
+use server_parts::{ServerFailure, ServerFault, TcpserverFault};
 use server_words::{ConnectionLimits, Level, ServerWords, read_server_words};
 use server_yard::{Places, Yard};
 use std::alloc::Global;
@@ -32,15 +33,15 @@ use std::fs::{File, Files};
 use std::io::Write;
 use std::marker::Brand;
 use std::net::{Net, OpenListener, SocketAddr, TcpStream};
-use std::process::{ChildStdin, OpenProcess, Processes};
 use std::rt::Env;
+use std::sync::Wait;
 use std::sync::ledger::Blank;
-use std::sync::{Mutex, Wait};
 use std::thread::Threads;
 use std::time::Clock;
 use stream_tools::SearchPath;
 use stream_tools::started::{SystemGiven, texts_of};
 use tcp_connections::Reserve;
+use tcp_service::LoggedYard;
 use tcp_streams::{Passing, ProgramStarter, SocketAcceptor};
 
 /// Runs `tcpserver` with these words, over the system's sockets, files and programs; `errors` takes the lines of its
@@ -59,13 +60,10 @@ pub fn run_tcpserver<R, E>(
     causes: &mut Vec<u8>,
 ) -> Result<Finished, TcpserverFault>
 where
-    R: Env + Print + AllocGlobal + Files<File = File> + Processes + Threads + Wait + Clock + Sync,
+    R: Env + Print + AllocGlobal + Files<File = File> + Threads + Wait + Clock + Sync,
     R: Net<Stream = TcpStream>,
     R::Dir: Send + Sync,
     R::Listener: Send,
-    R::Started: OpenProcess<Stdin = ChildStdin> + Send,
-    <R::Started as OpenProcess>::Stdout: Send,
-    <R::Started as OpenProcess>::Stderr: Send,
     E: Write + Copy + Send + Sync + Drop,
     ensures answers { AnswersWords (plan_by_words (mode_by_name voice) (map text_in (texts_of words.now))) result }
 {
@@ -76,8 +74,8 @@ where
     run_words::<SystemOf<'_, R, E>>(rt, (lines, errors), texts.as_slice(), voice, causes)
 }
 
-// Runs the tool with these words. Here and below, what a function owns it lends to the calls that follow: they have the
-// many ways out.
+// Runs the tool with these words. Here and below, most of what a function owns it lends to the calls that follow: they
+// have the many ways out.
 fn run_words<P: System + Send + Sync>(
     rt: &P::Runtime,
     streams: (P::Lines, P::Errors),
@@ -117,17 +115,16 @@ fn run_server<P: System + Send + Sync>(
     if forgets_programs(rt) {
         return Err(ServerFailure::from(ServerFault::CannotWait));
     }
-    let server = parts_of(rt, lines, words, voice)?;
-    open_and_run::<P>(rt, errors, &server, words)
+    let server = parts_of(rt, words)?;
+    let log = log_of(rt.alloc(), lines, words, voice);
+    open_and_run::<P>(rt, errors, log, &server, words)
 }
 
-// What a server has by its words, but for its yard and its socket.
-fn parts_of<'a, R: Env + AllocGlobal + Files, W: Write + Drop>(
+// What a server has by its words, but for its socket, its yard and its log.
+fn parts_of<'a, R: Env + AllocGlobal + Files>(
     rt: &R,
-    lines: W,
     words: &'a ServerWords<'_>,
-    voice: Voice,
-) -> Result<ServerParts<'a, W>, ServerFailure>
+) -> Result<ServerParts<'a>, ServerFailure>
     ensures asked { IfOk result (AreAsked words.now) }
     ensures refused { IfErr result (λ failure. FailsNames words.now.hosts failure.fault) }
 {
@@ -150,7 +147,6 @@ fn parts_of<'a, R: Env + AllocGlobal + Files, W: Write + Drop>(
             input: wrapping.input(),
             output: wrapping.output(),
         },
-        log: Mutex::new(log_of(alloc, lines, words, voice)),
     })
 }
 
@@ -166,17 +162,19 @@ fn log_of<W: Write>(alloc: Global, lines: W, words: &ServerWords<'_>, voice: Voi
 fn open_and_run<'a, P: System + Send + Sync>(
     rt: &'a P::Runtime,
     errors: P::Errors,
-    server: &'a ServerParts<'_, P::Lines>,
+    log: Log<P::Lines>,
+    server: &'a ServerParts<'_>,
     words: &'a ServerWords<'_>,
 ) -> Result<Finished, ServerFailure>
     requires asked { AreAsked words.now server.now }
 {
-    let rules = RulesPath::by_words(rt.alloc(), rt, words)?;
+    let mut log = log;
+    let rules = SystemRules::by_words(rt.alloc(), rt, words)?;
     let (search, reserve) = (&server.search, &server.reserve);
     let starter = ProgramStarter::new(rt, search, reserve, server.passing, errors);
-    let acceptor = open_socket::<P>(rt, &server.log, words, &starter)?;
+    let acceptor = open_socket::<P>(rt, &mut log, words, &starter)?;
     let places = Blank::new(server.limits.connections);
-    let run = run_in_yard::<Brand, P>(rt, server, acceptor, &rules, words, places);
+    let run = run_in_yard::<Brand, P>(rt, server, acceptor, log, &rules, words, places);
     drop(rules);
     run
 }
@@ -193,7 +191,7 @@ type AcceptorOn<'a, P> = SocketAcceptor<
 // words ask for that.
 fn open_socket<'a, P: System>(
     rt: &'a P::Runtime,
-    log: &Mutex<Log<P::Lines>>,
+    log: &mut Log<P::Lines>,
     words: &ServerWords<'_>,
     starter: &'a ProgramStarter<'a, P::Runtime, P::Errors>,
 ) -> Result<AcceptorOn<'a, P>, ServerFailure>
@@ -207,32 +205,33 @@ fn open_socket<'a, P: System>(
         print_port(rt, &end)?;
     }
     if let Ok(SocketAddr::V4(end)) = end {
-        let _ = log.lock(rt).listening(end.ip().octets(), end.port());
+        let _ = log.listening(end.ip().octets(), end.port());
     }
     let at_once = words.sends_at_once();
     Ok(SocketAcceptor::new(listener, at_once, starter))
 }
 
-// Tells a person where rules are by names that clients don't have.
-fn tell_names<R: Files<File = File> + Wait, E: Write + Drop>(
+// Tells a person where the rules at this path are by names that clients don't have.
+fn tell_names<R: Files<File = File>, W: Write>(
     rt: &R,
     alloc: Global,
-    log: &Mutex<Log<E>>,
-    rules: &RulesPath<'_, R>,
+    log: &mut Log<W>,
+    rules: &str,
     words: &ServerWords<'_>,
 ) {
     let has_names = words.hosts().is_some() && words.names_remote();
-    if !has_names && words.level() == Level::All && rules.has_named_rule(alloc) {
-        let _ = log.lock(rt).no_names();
+    if !has_names && words.level() == Level::All && has_named_rule(alloc, rt, rules) {
+        let _ = log.no_names();
     }
 }
 
 // The server over a yard of its own, which serves by what was made of the words.
 fn run_in_yard<'a, L: Places + Send + Sync, P: System + Send + Sync>(
     rt: &'a P::Runtime,
-    server: &'a ServerParts<'_, P::Lines>,
+    server: &'a ServerParts<'_>,
     acceptor: AcceptorOn<'a, P>,
-    rules: &'a RulesPath<'a, P::Runtime>,
+    log: Log<P::Lines>,
+    rules: &'a SystemRules<'a, P::Runtime>,
     words: &'a ServerWords<'_>,
     places: Blank,
 ) -> Result<Finished, ServerFailure>
@@ -246,12 +245,13 @@ fn run_in_yard<'a, L: Places + Send + Sync, P: System + Send + Sync>(
     requires accepts { AcceptsAsAsked P.listens words.now acceptor }
 {
     let alloc = rt.alloc();
-    tell_names(rt, alloc, &server.log, rules, words);
+    let mut log = log;
+    tell_names(rt, alloc, &mut log, rules.path, words);
     let yard = yard_of::<L>(alloc, server.limits, places)?;
-    let missing = rules.missing();
-    let rules = FolderRules(rules);
+    let logged = LoggedYard { yard, log };
+    let missing = rules.missing;
     serve::<OnSystem<'a, P, L>, AcceptorOn<'a, P>>(
-        rt, alloc, acceptor, yard, &rules, missing, server,
+        rt, alloc, acceptor, logged, rules, missing, server,
     )
 }
 

@@ -1,5 +1,5 @@
 use Rattle.std.specs.Prelude.{false}
-use Rattle.server_parts.specs.RulesPaths.{rules_missing}
+use Rattle.ucspi.specs.Rules.{rules_missing}
 use Rattle.ucspi.proofs.tool.open_and_run.Given as goal
 
 abbrev pub ghosts-run_in_yard-L-Ledger : goal.ghosts-run_in_yard-L-Ledger
