@@ -299,6 +299,9 @@ class Streams(Runs):
                 os.close(reading)
                 os.close(writing)
                 self.ended("%s ends with its program: %s" % (tool, ends), ended, code, b"", ended.stderr)
+            with open("/dev/zero", "rb") as endless:
+                ended = self.run([tool, "sh", "-c", "exit 3"], stdin=endless)
+            self.ended("%s ends with its program: an input without end" % tool, ended, 3, b"", ended.stderr)
             here, there = socket.socketpair()
             here.settimeout(LIMIT)
             with subprocess.Popen([self.program, tool, "sh", "-c", "echo bye"], stdin=there, stdout=there, stderr=subprocess.DEVNULL) as tied:
