@@ -1,5 +1,5 @@
 //! The path of a server's rules file: its name, and the folder in which it stands.
-ghost use Rattle.std.specs.Prelude.{◌≡◌, IfErr, IfOk, Some};
+ghost use Rattle.std.specs.Prelude.{IfErr, IfOk, Some};
 ghost use Rattle.dir_disk.specs.OsParts.{os_disk, system_folder};
 ghost use Rattle.server_parts.specs.Asked.{FailsRules};
 ghost use Rattle.server_parts.specs.RulesPaths.{IsFolderOfPath, IsNameIn};

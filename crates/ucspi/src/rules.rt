@@ -1,5 +1,5 @@
 //! Where the rules of a server stand.
-ghost use Rattle.std.specs.Prelude.{◌≡◌, IfErr, IfOk};
+ghost use Rattle.std.specs.Prelude.{IfErr, IfOk};
 ghost use Rattle.dir_disk.specs.OsParts.{os_disk, system_folder};
 ghost use Rattle.server_parts.specs.Asked.{FailsRules};
 ghost use Rattle.server_parts.specs.RulesPaths.{IsFolderOfPath};
