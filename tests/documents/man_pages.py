@@ -21,7 +21,7 @@ FAULTS = {
     "delcr": ("stream_tools/src/filter.rt", "FilterFault", "Filter"),
     "fixcrio": ("stream_tools/src/between.rt", "BetweenFault", "Between"),
     "recordio": ("stream_tools/src/between.rt", "BetweenFault", "Between"),
-    "rulesim": ("script_tool/src/sim.rt", "SimFault", "Script"),
+    "rulesim": ("script_words/src/fault.rt", "SimFault", "Script"),
 }
 # the fault of `tcprules -n`, which prints under the same name
 REVIEW = ("rules_tools/src/review.rt", "ReviewFault", "Review")

@@ -7,8 +7,8 @@ use Rattle.std.proofs.lemmas.Grind.{flat_map-append}
 use Rattle.std.proofs.lemmas.List.{append-nil, append_assoc}
 use Rattle.std.proofs.lemmas.List.Sums.{sum_by-append, sum_by-cons}
 use Rattle.rule_lookup.specs.Lines.{Line, lines_of}
-use Rattle.script_tool.specs.declared.sim.SimFault.{SimFault}
-use Rattle.script_tool.specs.declared.sim.SimFault.TheVariants.{ReadFault, OutOfMemory}
+use Rattle.script_words.specs.declared.fault.SimFault.{SimFault}
+use Rattle.script_words.specs.declared.fault.SimFault.TheVariants.{ReadFault, OutOfMemory}
 use Rattle.script_tool.specs.declared.verdicts.Sums.{Sums}
 use Rattle.script_tool.specs.Judging.{Judges, with_line, with_verdict}
 use Rattle.script_tool.specs.Logs.{is_changed, is_told, is_told_changed, is_unread, line_printed, log_printed, printed_by, sums_of, sums_text}

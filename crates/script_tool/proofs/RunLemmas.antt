@@ -6,8 +6,8 @@ use Rattle.std.specs.Io.BufRead.{take_through, drop_through, strip_last, DropsTh
 use Rattle.std.specs.Io.KnownBytes.{Appends, IsAtEnd}
 use Rattle.rule_lookup.specs.Lines.{Line, empty_line, lines_of, onto_line}
 use Rattle.std.specs.Prelude.{Result, Ok, Err}
-use Rattle.script_tool.specs.declared.sim.SimFault.{SimFault}
-use Rattle.script_tool.specs.declared.sim.SimFault.TheVariants.{BadCommand, ReadFault, WriteFault, OutOfMemory}
+use Rattle.script_words.specs.declared.fault.SimFault.{SimFault}
+use Rattle.script_words.specs.declared.fault.SimFault.TheVariants.{BadCommand, ReadFault, WriteFault, OutOfMemory}
 use Rattle.script_tool.specs.declared.sim.LineOutcome.{LineOutcome}
 use Rattle.script_tool.specs.Commands.{Carries, Leads}
 use Rattle.script_tool.specs.Kept.{IsAt}

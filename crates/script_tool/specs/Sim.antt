@@ -15,8 +15,8 @@ use Rattle.server_events.specs.declared.event.Event.{Event}
 use Rattle.server_events.specs.Reports.{first_illegal, report_of}
 use Rattle.server_events.specs.ServerState.{start as server_at_start}
 use Rattle.rules_tools.specs.Reviews.{profile}
-use Rattle.script_tool.specs.declared.sim.SimFault.{SimFault}
-use Rattle.script_tool.specs.declared.sim.SimFault.TheVariants.{BadCommand, ReadFault, WriteFault, OutOfMemory}
+use Rattle.script_words.specs.declared.fault.SimFault.{SimFault}
+use Rattle.script_words.specs.declared.fault.SimFault.TheVariants.{BadCommand, ReadFault, WriteFault, OutOfMemory}
 use Rattle.rule_lookup.specs.Answers.{answer_lines}
 use Rattle.script_tool.specs.Logs.{log_printed}
 use Rattle.script_tool.specs.Replies.{fault_text, illegal_line, reached_line, report_line}

@@ -13,6 +13,5 @@ mod simulation;
 pub mod standard;
 mod verdicts;
 
-pub use script_words::{Command, LineEnd, read_command, script};
-pub use sim::{SimFault, run_rulesim};
+pub use sim::run_rulesim;
 pub use standard::run_script;

@@ -10,39 +10,15 @@ ghost use Rattle.rule_lookup.specs.Lines.{lines_of};
 
 use crate::simulation::Simulation;
 use crate::verdicts::compare_log;
-use script_words::{Command, LineEnd, read_command};
+use script_words::{Command, LineEnd, SimFault, read_command};
 use std::alloc::Global;
+use std::io;
 use std::io::{BufRead, ErrorKind, Write};
-use std::{fmt, io};
 
 /// The greatest number of lines that are read.
 pub const MOST_LINES: u64 = 1 << 40;
 
 const _: () = prove!(MOST_LINES == 1_099_511_627_776);
-
-/// Why a run of `rulesim` doesn't come to the end of its script.
-#[derive(Clone, Copy)]
-pub enum SimFault {
-    /// This line, from 1, is no command.
-    BadCommand(u64),
-    /// The script could not be read, or has more than 2^40 lines.
-    ReadFault,
-    /// The answers could not be written.
-    WriteFault,
-    /// There was no memory.
-    OutOfMemory,
-}
-
-impl fmt::Display for SimFault {
-    fn fmt<W: fmt::Write>(&self, f: &mut fmt::Formatter<W>) -> fmt::Result {
-        match self {
-            SimFault::BadCommand(line) => write!(f, "line {line}: bad command"),
-            SimFault::ReadFault => f.write_str("read fault"),
-            SimFault::WriteFault => f.write_str("write fault"),
-            SimFault::OutOfMemory => f.write_str("out of memory"),
-        }
-    }
-}
 
 /// Runs a script, and writes what each command prints as soon as the command is read. The writer is flushed before the
 /// return.

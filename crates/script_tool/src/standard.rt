@@ -2,8 +2,9 @@
 ghost use Rattle.std.specs.Prelude.{◌≡◌, ◌⊎◌, None, Err, IfSome};
 ghost use Rattle.script_tool.specs.Sim.{Prints, sim};
 
-use crate::sim::{SimFault, run_rulesim};
+use crate::sim::run_rulesim;
 use byte_streams::Patient;
+use script_words::SimFault;
 use std::alloc::Global;
 use std::io;
 use std::io::{BufReader, BufWriter, Read, Write};

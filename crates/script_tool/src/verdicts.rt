@@ -9,10 +9,10 @@ ghost use Rattle.script_tool.specs.Sim.{Prints};
 ghost use Rattle.script_words.specs.LogLines.{Tells, TellsPeer, reading};
 ghost use Rattle.script_words.specs.Meanings.{client_of, told_of};
 
-use crate::sim::{MOST_LINES, SimFault, read_fault, without_feed};
+use crate::sim::{MOST_LINES, read_fault, without_feed};
 use crate::simulation::Standing;
 use rule_lookup::{Decision, Found, Peer, PeerFault, Verdict};
-use script_words::{End, LogLine, VerdictLine, read_line};
+use script_words::{End, LogLine, SimFault, VerdictLine, read_line};
 use server_log::Piece::{Address, Number, Text};
 use server_log::{append_line, push_pieces};
 use std::alloc::{AllocError, Global};

@@ -11,7 +11,8 @@ use rules_tools::{
     CheckFailure, InstallFolders, ReviewFault, RulesFailure, SystemFolders, SystemVariables,
     TcprulesFault, run_review, run_tcprules, run_tcprulescheck,
 };
-use script_tool::{SimFault, run_script};
+use script_tool::run_script;
+use script_words::SimFault;
 use server_parts::TcpserverFault;
 use std::alloc::Global;
 use std::fs::{File, Files};

@@ -12,8 +12,8 @@ use Rattle.server_parts.specs.declared.fault.ServerFault.TheVariants.{BadHosts}
 use Rattle.server_parts.specs.declared.fault.TcpserverFault.{TcpserverFault}
 use Rattle.server_parts.specs.declared.fault.TcpserverFault.TheVariants as server
 use Rattle.server_words.specs.Faults as words
-use Rattle.script_tool.specs.declared.sim.SimFault.{SimFault}
-use Rattle.script_tool.specs.declared.sim.SimFault.TheVariants.{BadCommand, ReadFault, WriteFault, OutOfMemory}
+use Rattle.script_words.specs.declared.fault.SimFault.{SimFault}
+use Rattle.script_words.specs.declared.fault.SimFault.TheVariants.{BadCommand, ReadFault, WriteFault, OutOfMemory}
 use Rattle.ucspi_tools.specs.declared.fault.ToolFault.{ToolFault}
 use Rattle.ucspi_tools.specs.declared.fault.ToolFault.TheVariants as tool
 

@@ -9,7 +9,7 @@ use Rattle.fault_hints.specs.declared.voice.Voice.{Voice}
 use Rattle.rules_tools.specs.declared.review.ReviewFault.{ReviewFault}
 use Rattle.rules_tools.specs.declared.tcprules.RulesFailure.{RulesFailure}
 use Rattle.rules_tools.specs.declared.tcprulescheck.CheckFailure.{CheckFailure}
-use Rattle.script_tool.specs.declared.sim.SimFault.{SimFault}
+use Rattle.script_words.specs.declared.fault.SimFault.{SimFault}
 use Rattle.server_parts.specs.declared.fault.TcpserverFault.{TcpserverFault}
 use Rattle.stream_tools.specs.Entries.{path_among}
 use Rattle.stream_tools.specs.Filters.{Came}

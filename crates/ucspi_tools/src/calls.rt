@@ -6,7 +6,7 @@ use crate::fault::ToolFault;
 use child_jobs::Status;
 use fault_hints::Voice;
 use rules_tools::{CheckFailure, ReviewFault, RulesFailure};
-use script_tool::SimFault;
+use script_words::SimFault;
 use server_parts::TcpserverFault;
 use stream_tools::BetweenFailure;
 

@@ -8,7 +8,7 @@ use crate::tool::Tool;
 use child_jobs::Status;
 use fault_hints::Detail;
 use rules_tools::{CheckFault, ReviewFault, TcprulesFault};
-use script_tool::SimFault;
+use script_words::SimFault;
 use server_parts::{ServerFault, TcpserverFault};
 use std::fmt::Display;
 use std::io::{Cursor, Write};

@@ -14,7 +14,7 @@ use crate::fault::{BAD_INPUT, SYSTEM_FAULT, ToolFault, status_code, warned_code}
 use crate::tool::Tool;
 use fault_hints::Detail;
 use rules_tools::{ReviewFault, TcprulesFault};
-use script_tool::SimFault;
+use script_words::SimFault;
 use std::alloc::{AllocError, Global};
 use std::io;
 use std::io::{Read, Write};

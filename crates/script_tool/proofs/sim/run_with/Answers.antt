@@ -1,5 +1,5 @@
 use Rattle.std.proofs.Common.{◌<◌, inl, arith, length, refl, ap, Err}
-use Rattle.script_tool.specs.declared.sim.SimFault.TheVariants.{ReadFault}
+use Rattle.script_words.specs.declared.fault.SimFault.TheVariants.{ReadFault}
 use Rattle.script_tool.specs.declared.sim.LineOutcome.TheVariants as LineOutcome
 use Rattle.script_tool.specs.Sim.{after, start}
 use Rattle.script_tool.proofs.RunLemmas.{at_bad_line, at_end, at_fault, at_line, at_log, at_no_memory, leads_to, at_write_fault, runs_from_start}

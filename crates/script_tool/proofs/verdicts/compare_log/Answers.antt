@@ -1,6 +1,6 @@
 use Rattle.std.proofs.Common.{◌<◌, inl, inr, arith, length, refl, ap, ◌∙◌}
 use Rattle.std.specs.Io.BufRead.{strip_last}
-use Rattle.script_tool.specs.declared.sim.SimFault.TheVariants.{ReadFault, OutOfMemory}
+use Rattle.script_words.specs.declared.fault.SimFault.TheVariants.{ReadFault, OutOfMemory}
 use Rattle.script_tool.proofs.LogLemmas.{AreAtMost-line, judged_as, log_at_end, log_at_fault, log_at_line, log_from_start}
 use Rattle.script_tool.proofs.verdicts.compare_log.Goals as goal
 use Rattle.script_words.specs.LogLines.{reading}
