@@ -1,19 +1,11 @@
 -- The path of a rules file, by the words of a server.
-use Rattle.std.specs.Prelude.{◌≡◌, ℕ, List, [], Option, None, Some}
-use Rattle.rule_lookup.specs.declared.decision.WhenMissing.{WhenMissing}
-use Rattle.rule_lookup.specs.declared.decision.WhenMissing.TheVariants.{Allow}
+use Rattle.std.specs.Prelude.{◌≡◌, ℕ, List, Option, None, Some}
 use Rattle.rules_tools.specs.Paths.{IsSplit, folder_path}
 
 -- a name is the last part of a path
 abbrev pub IsNameIn : List ℕ → Option (List ℕ) → Type 0
 IsNameIn path None = ⊥
 IsNameIn path (Some name) = (folder : List ℕ) × IsSplit path folder name
-
--- the rules file stands at the path of `-x`, and `-X` says what it means that it is missing; without `-x` there is none,
--- and everybody is allowed
-abbrev pub AreRulesAt : Option (List ℕ) → WhenMissing → (path : List ℕ) → (name : Option (List ℕ)) → (missing : WhenMissing) → Type 0
-AreRulesAt None told path name missing = (path ≡ []) × (name ≡ None) × (missing ≡ Allow)
-AreRulesAt (Some given) told path name missing = (path ≡ given) × IsNameIn given name × (missing ≡ told)
 
 -- the path of a folder is that of the folder in which another path leads to a file
 pub record IsFolderOfPath (path folder : List ℕ) : Type 0 where

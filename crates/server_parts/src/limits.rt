@@ -53,8 +53,8 @@ impl MemoryLimits {
     }
 }
 
-/// The descriptors of a server that it opens after this: its socket, the folder of its rules, and two for a log that
-/// has to be waited for.
+/// The descriptors of a server that it opens after this: its socket, a look at what memory it takes, and two for a log
+/// that has to be waited for.
 const OWN: u64 = 4;
 
 /// The descriptors of a connection that is handed over, until its program has it: itself, and the rules file.

@@ -1,7 +1,8 @@
 -- Where the rules of a server stand, by its words.
-use Rattle.std.specs.Prelude.{ℕ, List, Option}
+use Rattle.std.specs.Prelude.{◌≡◌, ℕ, List, [], Option, None, Some}
 use Rattle.rule_lookup.specs.declared.decision.WhenMissing.{WhenMissing}
-use Rattle.server_parts.specs.RulesPaths.{AreRulesAt}
+use Rattle.rule_lookup.specs.declared.decision.WhenMissing.TheVariants.{Allow}
+use Rattle.server_parts.specs.RulesPaths.{IsNameIn}
 use Rattle.server_words.specs.Plans.{ServerPlan}
 use Rattle.ucspi.specs.declared.rules.SystemRules.{SystemRules}
 
@@ -15,6 +16,12 @@ rules_name rules = rules.name
 abbrev pub rules_missing : {R : Type 0} → SystemRules R → WhenMissing
 rules_missing rules = rules.missing
 
+-- they stand at the path of `-x`, and `-X` says what it means that the file is missing; without `-x` there are none, and
+-- everybody is allowed
+abbrev pub AreRulesAt : {R : Type 0} → Option (List ℕ) → WhenMissing → SystemRules R → Type 0
+AreRulesAt None told rules = (rules_path rules ≡ []) × (rules_name rules ≡ None) × (rules_missing rules ≡ Allow)
+AreRulesAt (Some given) told rules = (rules_path rules ≡ given) × IsNameIn given (rules_name rules) × (rules_missing rules ≡ told)
+
 -- the rules stand where the words say
 abbrev pub AreRulesOf : {R : Type 0} → ServerPlan → SystemRules R → Type 0
-AreRulesOf words rules = AreRulesAt words.rules words.missing (rules_path rules) (rules_name rules) (rules_missing rules)
+AreRulesOf words rules = AreRulesAt words.rules words.missing rules

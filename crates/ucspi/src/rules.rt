@@ -20,7 +20,7 @@ pub(crate) struct SystemRules<'a, R> {
     // the system's files
     files: &'a R,
     /// The path of the file as it was given; empty if there is none.
-    pub path: &'a str,
+    path: &'a str,
     name: Option<Name>,
     /// What is decided if there is no file.
     pub missing: WhenMissing,

@@ -211,16 +211,19 @@ fn open_socket<'a, P: System>(
     Ok(SocketAcceptor::new(listener, at_once, starter))
 }
 
-// Tells a person where the rules at this path are by names that clients don't have.
+// Tells a person where the rules are by names that clients don't have.
 fn tell_names<R: Files<File = File>, W: Write>(
     rt: &R,
     alloc: Global,
     log: &mut Log<W>,
-    rules: &str,
     words: &ServerWords<'_>,
 ) {
     let has_names = words.hosts().is_some() && words.names_remote();
-    if !has_names && words.level() == Level::All && has_named_rule(alloc, rt, rules) {
+    if !has_names
+        && words.level() == Level::All
+        && let Some(path) = words.rules()
+        && has_named_rule(alloc, rt, path)
+    {
         let _ = log.no_names();
     }
 }
@@ -246,7 +249,7 @@ fn run_in_yard<'a, L: Places + Send + Sync, P: System + Send + Sync>(
 {
     let alloc = rt.alloc();
     let mut log = log;
-    tell_names(rt, alloc, &mut log, rules.path, words);
+    tell_names(rt, alloc, &mut log, words);
     let yard = yard_of::<L>(alloc, server.limits, places)?;
     let logged = LoggedYard { yard, log };
     let missing = rules.missing;
