@@ -10,9 +10,9 @@ use Rattle.std.proofs.KnownBytes.{Appends-nil, Consumes-kept, Consumes-nil}
 use Rattle.byte_streams.specs.Wrappers.{Feeds, Gives, through}
 use Rattle.byte_streams.specs.declared.recording.Way.{Way}
 use Rattle.byte_streams.specs.declared.recording.Way.TheVariants.{Input, Output}
-use Rattle.byte_streams.specs.Pumps.{Gave, IsWritten, is_end, pieces_by}
+use Rattle.byte_streams.specs.Pumps.{Ends, Gave, IsWritten, is_end, pieces_by}
 use Rattle.byte_streams.specs.Taps.{IsTold, SeesAll, Shown, shown_to}
-use Rattle.byte_streams.specs.Pieces.{CountsMore, IsOfWriter, Moment, Passes, ReadAndPassed, Wrote, pieces_of, why_of}
+use Rattle.byte_streams.specs.Pieces.{IsOfWriter, Passes, ReadAndPassed, Wrote, pieces_of, why_of}
 use Rattle.byte_streams.specs.declared.pumping.Why.{Why}
 use Rattle.byte_streams.specs.declared.pumping.Why.TheVariants.{End, ReadFault, WriteFault, ZeroWrite, ReadsOver, Failed, OutOfMemory}
 
@@ -103,18 +103,15 @@ not_told ends tap goes_on = subst (λ at_end. IsTold ends at_end tap tap) (sym g
 
 -- ---- a read
 
--- what was written and counted, where nothing was
-wrote_nothing : (old new : Moment) → new.ends.writer ≡ old.ends.writer → Appends old.ends.writer new.ends.writer []
-wrote_nothing old new same = subst (λ writer. Appends old.ends.writer writer []) (sym same) (Appends-nil old.ends.writer)
-
-counted_nothing : (old new : ℕ) → new ≡ old → CountsMore old new []
-counted_nothing old new same = λ fits. omega (arith, same)
+-- what was written, where nothing was
+wrote_nothing : (old new : Ends) → new.writer ≡ old.writer → Appends old.writer new.writer []
+wrote_nothing old new same = subst (λ writer. Appends old.writer writer []) (sym same) (Appends-nil old.writer)
 
 module _ {T : Type 0} (watches : T → Way) (sees : T → List ℕ → T → Type 0) (ends : T → T → Type 0) where
   -- a piece went through, and the writer took what it could
-  pub passes_given : (tap mid tap' : T) {old new : Moment} (text given : List ℕ) {result : Result (Unit {0}) Why}
+  pub passes_given : (tap mid tap' : T) {old new : Ends} (text given : List ℕ) {result : Result (Unit {0}) Why}
       → SeesAll sees tap (pieces_of (watches tap) Input text) mid → watches mid ≡ watches tap → SeesAll sees mid (pieces_of (watches mid) Output given) tap'
-      → Gives old.ends.chain new.ends.chain text given → Wrote old.ends.writer new.ends.writer given result old.given new.given
+      → Gives old.chain new.chain text given → Wrote old.writer new.writer given result
       → Passes text old new (shown_to watches sees ends tap tap') 1 (why_of result)
   passes_given tap mid tap' {old} {new} text given {result} read same gave gives wrote =
       let way = watches tap in
@@ -123,8 +120,7 @@ module _ {T : Type 0} (watches : T → Way) (sees : T → List ℕ → T → Typ
         written = wrote.written;
         pieces = pieces_of way Input text ++ pieces_of way Output given;
         writes = wrote.writes;
-        counts_written = wrote.counts_written;
-        gave = gave_now result new.ends.reader old.ends.chain new.ends.chain text given wrote.reason gives;
+        gave = gave_now result new.reader old.chain new.chain text given wrote.reason gives;
         all = wrote.all;
         shown = (tap', SeesAll-append sees tap mid tap' (pieces_of way Input text) (pieces_of way Output given) read (subst (λ w. SeesAll sees mid (pieces_of w Output given) tap') same gave), not_told ends tap' (no_end result wrote.reason));
         joined = joined_both way text given;
@@ -132,16 +128,15 @@ module _ {T : Type 0} (watches : T → Way) (sees : T → List ℕ → T → Typ
       }
 
   -- the chain had no memory for a piece
-  pub passes_none : (tap tap' : T) {old new : Moment} {text : List ℕ}
-      → SeesAll sees tap (pieces_of (watches tap) Input text) tap' → new.ends.writer ≡ old.ends.writer → new.given ≡ old.given
+  pub passes_none : (tap tap' : T) {old new : Ends} {text : List ℕ}
+      → SeesAll sees tap (pieces_of (watches tap) Input text) tap' → new.writer ≡ old.writer
       → Passes text old new (shown_to watches sees ends tap tap') 1 OutOfMemory
-  passes_none tap tap' {old} {new} {text} read writer put = record {
+  passes_none tap tap' {old} {new} {text} read writer = record {
     given = [];
     written = [];
     pieces = pieces_of (watches tap) Input text;
     writes = wrote_nothing old new writer;
-    counts_written = counted_nothing old.given new.given put;
-    gave = (λ later. old.ends.chain (text ++ later), λ later. refl);
+    gave = (λ later. old.chain (text ++ later), λ later. refl);
     all = refl;
     shown = (tap', read, refl);
     joined = joined_read (watches tap) text;
@@ -149,15 +144,14 @@ module _ {T : Type 0} (watches : T → Way) (sees : T → List ℕ → T → Typ
   }
 
   -- nothing went through
-  pub passes_nothing : (tap : T) {old new : Moment} (most : ℕ) (why : Why) → new.ends.writer ≡ old.ends.writer → new.given ≡ old.given
-      → Gave why new.ends.reader old.ends.chain new.ends.chain [] [] → IsWritten why [] [] → is_end why ≡ false
+  pub passes_nothing : (tap : T) {old new : Ends} (most : ℕ) (why : Why) → new.writer ≡ old.writer
+      → Gave why new.reader old.chain new.chain [] [] → IsWritten why [] [] → is_end why ≡ false
       → Passes [] old new (shown_to watches sees ends tap tap) most why
-  passes_nothing tap {old} {new} most why writer put gave all goes_on = record {
+  passes_nothing tap {old} {new} most why writer gave all goes_on = record {
     given = [];
     written = [];
     pieces = [];
     writes = wrote_nothing old new writer;
-    counts_written = counted_nothing old.given new.given put;
     gave = gave;
     all = all;
     shown = (tap, refl, not_told ends tap goes_on);
@@ -166,17 +160,16 @@ module _ {T : Type 0} (watches : T → Way) (sees : T → List ℕ → T → Typ
   }
 
   -- the writer did not take all of the chain's rest
-  pub passes_rest : (tap tap' : T) {old new : Moment} {given : List ℕ} {why : Why}
-      → SeesAll sees tap (pieces_of (watches tap) Output given) tap' → given ≡ old.ends.chain []
-      → Wrote old.ends.writer new.ends.writer given (Err why) old.given new.given → IsAtEnd new.ends.reader
+  pub passes_rest : (tap tap' : T) {old new : Ends} {given : List ℕ} {why : Why}
+      → SeesAll sees tap (pieces_of (watches tap) Output given) tap' → given ≡ old.chain []
+      → Wrote old.writer new.writer given (Err why) → IsAtEnd new.reader
       → Passes [] old new (shown_to watches sees ends tap tap') 1 why
   passes_rest tap tap' {old} {new} {given} {why} gave is wrote at_end = record {
     given = given;
     written = wrote.written;
     pieces = pieces_of (watches tap) Output given;
     writes = wrote.writes;
-    counts_written = wrote.counts_written;
-    gave = gave_rest why new.ends.reader old.ends.chain new.ends.chain given wrote.reason at_end is;
+    gave = gave_rest why new.reader old.chain new.chain given wrote.reason at_end is;
     all = wrote.all;
     shown = (tap', gave, not_told ends tap' (no_end (Err why) wrote.reason));
     joined = joined_given (watches tap) given;
@@ -184,16 +177,15 @@ module _ {T : Type 0} (watches : T → Way) (sees : T → List ℕ → T → Typ
   }
 
   -- it took all, and the tap was told
-  pub passes_end : (tap tap' tap'' : T) {old new : Moment} {given : List ℕ}
-      → SeesAll sees tap (pieces_of (watches tap) Output given) tap' → ends tap' tap'' → given ≡ old.ends.chain []
-      → Wrote old.ends.writer new.ends.writer given (Ok tt) old.given new.given → IsAtEnd new.ends.reader
+  pub passes_end : (tap tap' tap'' : T) {old new : Ends} {given : List ℕ}
+      → SeesAll sees tap (pieces_of (watches tap) Output given) tap' → ends tap' tap'' → given ≡ old.chain []
+      → Wrote old.writer new.writer given (Ok tt) → IsAtEnd new.reader
       → Passes [] old new (shown_to watches sees ends tap tap'') 1 End
   passes_end tap tap' tap'' {given = given} gave told is wrote at_end = record {
     given = given;
     written = wrote.written;
     pieces = pieces_of (watches tap) Output given;
     writes = wrote.writes;
-    counts_written = wrote.counts_written;
     gave = (at_end, is);
     all = wrote.all;
     shown = (tap', gave, told);
@@ -202,27 +194,25 @@ module _ {T : Type 0} (watches : T → Way) (sees : T → List ℕ → T → Typ
   }
 
   -- a read that failed took nothing
-  pub read_and_passed_nothing : (tap : T) {old new : Moment} (times : ℕ) (why : Why)
-      → Keeps old.ends.reader new.ends.reader → new.ends.writer ≡ old.ends.writer → new.taken ≡ old.taken → new.given ≡ old.given
-      → Gave why new.ends.reader old.ends.chain new.ends.chain [] [] → IsWritten why [] [] → is_end why ≡ false
+  pub read_and_passed_nothing : (tap : T) {old new : Ends} (times : ℕ) (why : Why)
+      → Keeps old.reader new.reader → new.writer ≡ old.writer
+      → Gave why new.reader old.chain new.chain [] [] → IsWritten why [] [] → is_end why ≡ false
       → ReadAndPassed old new (shown_to watches sees ends tap tap) times why
-  read_and_passed_nothing tap {old} {new} times why keeps writer taken put gave all goes_on = record {
+  read_and_passed_nothing tap {old} {new} times why keeps writer gave all goes_on = record {
     text = [];
-    reads = Consumes-kept old.ends.reader old.ends.reader new.ends.reader [] (Consumes-nil old.ends.reader) keeps;
-    counts_text = counted_nothing old.taken new.taken taken;
-    passes = passes_nothing tap times why writer put gave all goes_on;
+    reads = Consumes-kept old.reader old.reader new.reader [] (Consumes-nil old.reader) keeps;
+    passes = passes_nothing tap times why writer gave all goes_on;
   }
 
 -- whatever the reader had left before
-pub passes_after : {text : List ℕ} {old new : Moment} {tap : Shown} {most : ℕ} {why : Why} (reader : Option (List ℕ))
+pub passes_after : {text : List ℕ} {old new : Ends} {tap : Shown} {most : ℕ} {why : Why} (reader : Option (List ℕ))
     → Passes text old new tap most why
-    → Passes text (record old { ends = record { reader = reader; writer = old.ends.writer; chain = old.ends.chain } }) new tap most why
+    → Passes text (record { reader = reader; writer = old.writer; chain = old.chain }) new tap most why
 passes_after reader passes = record {
   given = passes.given;
   written = passes.written;
   pieces = passes.pieces;
   writes = passes.writes;
-  counts_written = passes.counts_written;
   gave = passes.gave;
   all = passes.all;
   shown = passes.shown;
@@ -231,16 +221,15 @@ passes_after reader passes = record {
 }
 
 -- a read that gave no byte found the end, and then the stream was ended
-pub read_and_passed_end : {E : Type 0} {old new : Moment} {tap : Shown} {why : Why} {n : ℕ} (result : Result ℕ E) (buffer : List ℕ)
-    → result ≡ Ok n → n ≡ 0 → ReadConsumes old.ends.reader new.ends.reader result buffer → 0 < length buffer → new.taken ≡ old.taken
-    → (IsAtEnd new.ends.reader → Passes [] old new tap 1 why) → ReadAndPassed old new tap 1 why
-read_and_passed_end {old = old} {new} result buffer took none read room same passes =
-    let reader = old.ends.reader in
-    let reader' = new.ends.reader in
+pub read_and_passed_end : {E : Type 0} {old new : Ends} {tap : Shown} {why : Why} {n : ℕ} (result : Result ℕ E) (buffer : List ℕ)
+    → result ≡ Ok n → n ≡ 0 → ReadConsumes old.reader new.reader result buffer → 0 < length buffer
+    → (IsAtEnd new.reader → Passes [] old new tap 1 why) → ReadAndPassed old new tap 1 why
+read_and_passed_end {old = old} {new} result buffer took none read room passes =
+    let reader = old.reader in
+    let reader' = new.reader in
     let consumed = MatchResult-at_ok (λ k. Consumes reader reader' (take k buffer) × (k ≡ 0 → 0 < length buffer → IsAtEnd reader')) (λ _. Keeps reader reader') 0 (took ∙ ap Ok none) read in
     record {
       text = [];
       reads = consumed.0;
-      counts_text = counted_nothing old.taken new.taken same;
       passes = passes (consumed.1 refl room);
     }

@@ -1,5 +1,5 @@
 -- Reads one after the other.
-use Rattle.std.proofs.Common.{◌≡◌, ℕ, ◌+◌, ◌^◌, ◌<◌, ◌≤◌, Bool, false, List, ◌∷◌, ◌++◌, refl, ◌⊎◌, sym, ap, subst, ◌∙◌, inl, inr, append_assoc, arith, length-append}
+use Rattle.std.proofs.Common.{◌≡◌, ℕ, ◌+◌, Bool, false, List, ◌∷◌, ◌++◌, refl, ◌⊎◌, sym, ap, subst, ◌∙◌, inl, inr, append_assoc, arith, length-append}
 use Rattle.std.specs.List.{concat}
 use Rattle.std.specs.declared.option.Option.{Option}
 use Rattle.std.specs.Io.KnownBytes.{IsAtEnd}
@@ -9,7 +9,7 @@ use Rattle.byte_streams.specs.declared.recording.Way.{Way}
 use Rattle.byte_streams.specs.declared.recording.Way.TheVariants.{Input, Output}
 use Rattle.byte_streams.specs.Pumps.{Ends, Gave, IsWritten, Pumped, is_end, pieces_by}
 use Rattle.byte_streams.specs.Taps.{SeesAll, Shown, Watches, shown_to}
-use Rattle.byte_streams.specs.Pieces.{CountsMore, Moment, Passes, StaysOpen, ReadAndPassed}
+use Rattle.byte_streams.specs.Pieces.{Passes, StaysOpen, ReadAndPassed}
 use Rattle.byte_streams.proofs.PassLemmas.{SeesAll-append, concat-append}
 use Rattle.byte_streams.specs.declared.pumping.PumpEnd.{PumpEnd}
 use Rattle.byte_streams.specs.declared.pumping.Why.{Why}
@@ -58,14 +58,7 @@ IsWritten-append ReadsOver given written given' written' first then = both given
 IsWritten-append Failed given written given' written' first then = both given written given' written' first then
 IsWritten-append OutOfMemory given written given' written' first then = both given written given' written' first then
 
--- ---- what is counted and shown
-
-CountsMore-trans : (one two three : ℕ) (bytes bytes' : List ℕ) → CountsMore one two bytes → CountsMore two three bytes' → CountsMore one three (bytes ++ bytes')
-CountsMore-trans one two three bytes bytes' first then = λ fits.
-    let mid = first fits in
-    let fits' : two < 2 ^ 64 = omega arith in
-    let end = then fits' in
-    omega (arith, length-append bytes bytes')
+-- ---- what is shown
 
 pieces_by-append : (way : Way) (text given text' given' : List ℕ) → pieces_by way text given ++ pieces_by way text' given' ≡ pieces_by way (text ++ text') (given ++ given')
 pieces_by-append Input text given text' given' = refl
@@ -80,16 +73,15 @@ module _ {T : Type 0} (watches : T → Way) (sees : T → List ℕ → T → Typ
       let seen : SeesAll sees tap pieces mid = subst (λ (t : T). SeesAll sees tap pieces t) (sym first.2) first.1 in
       (then.0, SeesAll-append sees tap mid then.0 pieces pieces' seen then.1, then.2)
 
-  passes_more : (tap mid tap' : T) {old now new : Moment} {text text' : List ℕ} {most most' : ℕ} (why : Why) → watches mid ≡ watches tap
+  passes_more : (tap mid tap' : T) {old now new : Ends} {text text' : List ℕ} {most most' : ℕ} (why : Why) → watches mid ≡ watches tap
       → Passes text old now (shown_to watches sees ends tap mid) most ReadsOver → Passes text' now new (shown_to watches sees ends mid tap') most' why
       → Passes (text ++ text') old new (shown_to watches sees ends tap tap') (most + most') why
   passes_more tap mid tap' {old} {now} {new} {text} {text'} why same one two = record {
     given = one.given ++ two.given;
     written = one.written ++ two.written;
     pieces = one.pieces ++ two.pieces;
-    writes = Appends-trans old.ends.writer now.ends.writer new.ends.writer one.written two.written one.writes two.writes;
-    counts_written = CountsMore-trans old.given now.given new.given one.written two.written one.counts_written two.counts_written;
-    gave = Gave-trans old.ends.chain now.ends.chain text one.given text' two.given one.gave why new.ends.reader new.ends.chain two.gave;
+    writes = Appends-trans old.writer now.writer new.writer one.written two.written one.writes two.writes;
+    gave = Gave-trans old.chain now.chain text one.given text' two.given one.gave why new.reader new.chain two.gave;
     all = IsWritten-append why one.given one.written two.given two.written one.all two.all;
     shown = watches_more why tap mid tap' one.pieces two.pieces one.shown two.shown;
     joined =
@@ -99,28 +91,23 @@ module _ {T : Type 0} (watches : T → Way) (sees : T → List ℕ → T → Typ
     few = omega (arith, length-append one.pieces two.pieces, one.few, two.few);
   }
 
-  pub read_and_passed_more : (tap mid tap' : T) {old now new : Moment} {times times' : ℕ} (why : Why) → watches mid ≡ watches tap
+  pub read_and_passed_more : (tap mid tap' : T) {old now new : Ends} {times times' : ℕ} (why : Why) → watches mid ≡ watches tap
       → ReadAndPassed old now (shown_to watches sees ends tap mid) times ReadsOver → ReadAndPassed now new (shown_to watches sees ends mid tap') times' why
       → ReadAndPassed old new (shown_to watches sees ends tap tap') (times + times') why
   read_and_passed_more tap mid tap' {old} {now} {new} why same one two = record {
     text = one.text ++ two.text;
-    reads = Consumes-trans old.ends.reader now.ends.reader new.ends.reader one.text two.text one.reads two.reads;
-    counts_text = CountsMore-trans old.taken now.taken new.taken one.text two.text one.counts_text two.counts_text;
+    reads = Consumes-trans old.reader now.reader new.reader one.text two.text one.reads two.reads;
     passes = passes_more tap mid tap' why same one.passes two.passes;
   }
 
 -- the same number of reads
-pub read_and_passed_times : {old new : Moment} {tap : Shown} {times times' : ℕ} {why : Why} → times ≡ times' → ReadAndPassed old new tap times why → ReadAndPassed old new tap times' why
+pub read_and_passed_times : {old new : Ends} {tap : Shown} {times times' : ℕ} {why : Why} → times ≡ times' → ReadAndPassed old new tap times why → ReadAndPassed old new tap times' why
 read_and_passed_times {old} {new} {tap} {why = why} same read_and_passed = subst (λ n. ReadAndPassed old new tap n why) same read_and_passed
 
--- a pump that began with nothing counted
-pub pumped_of_read_and_passed : {old new : Ends} {tap : Shown} {times times' : ℕ} {end : PumpEnd} → times ≤ times'
-    → ReadAndPassed (record { ends = old; taken = 0; given = 0 }) (record { ends = new; taken = end.taken; given = end.given }) tap times end.why
-    → Pumped old new tap times' end
-pumped_of_read_and_passed more read_and_passed =
+-- a pump that made so many reads
+pub pumped_of_read_and_passed : {old new : Ends} {tap : Shown} {end : PumpEnd} → ReadAndPassed old new tap end.reads end.why → Pumped old new tap end
+pumped_of_read_and_passed read_and_passed =
     let passes = read_and_passed.passes in
-    let counted = read_and_passed.counts_text (omega arith) in
-    let put_counted = passes.counts_written (omega arith) in
     record {
       text = read_and_passed.text;
       given = passes.given;
@@ -128,33 +115,12 @@ pumped_of_read_and_passed more read_and_passed =
       pieces = passes.pieces;
       reads = read_and_passed.reads;
       writes = passes.writes;
-      counts_text = omega arith;
-      counts_written = omega arith;
       gave = passes.gave;
       all = passes.all;
       shown = passes.shown;
       joined = passes.joined;
-      one_each = omega (arith, passes.few);
+      one_each = passes.few;
     }
-
--- a pump that is allowed more reads
-pub pumped_within : {old new : Ends} {tap : Shown} {times times' : ℕ} {end : PumpEnd}
-    → times ≤ times' → Pumped old new tap times end → Pumped old new tap times' end
-pumped_within more pumped = record {
-  text = pumped.text;
-  given = pumped.given;
-  written = pumped.written;
-  pieces = pumped.pieces;
-  reads = pumped.reads;
-  writes = pumped.writes;
-  counts_text = pumped.counts_text;
-  counts_written = pumped.counts_written;
-  gave = pumped.gave;
-  all = pumped.all;
-  shown = pumped.shown;
-  joined = pumped.joined;
-  one_each = omega (arith, pumped.one_each);
-}
 
 -- where a read failed, or there are no more reads, the chain can go on as before
 pub goes_on_as_before : {why : Why} (old new : Bool) → StaysOpen why old new → (why ≡ ReadFault) ⊎ (why ≡ ReadsOver) → new ≡ old

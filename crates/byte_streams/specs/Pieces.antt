@@ -1,5 +1,5 @@
 -- What the parts of a pump do, read by read.
-use Rattle.std.specs.Prelude.{◌≡◌, ◌+◌, ◌-◌, ◌^◌, ◌<◌, ◌≤◌, min, ℕ, Bool, List, [], ◌∷◌, length, Result, Ok, Err, IfErr, ⊤}
+use Rattle.std.specs.Prelude.{◌≡◌, ◌≤◌, ℕ, Bool, List, [], ◌∷◌, length, Result, Ok, Err, IfErr, ⊤}
 use Rattle.std.specs.List.{concat}
 use Rattle.std.specs.declared.option.Option.{Option}
 use Rattle.std.specs.Io.KnownBytes.{Appends, Consumes}
@@ -11,7 +11,6 @@ use Rattle.byte_streams.specs.Wrappers.{Writing}
 use Rattle.byte_streams.specs.Taps.{Shown}
 use Rattle.byte_streams.specs.declared.pumping.Why.{Why}
 use Rattle.byte_streams.specs.declared.pumping.Why.TheVariants.{End, ReadFault, WriteFault, ZeroWrite, ReadsOver, Failed, OutOfMemory}
-use Rattle.byte_streams.specs.declared.pieces.PumpState.{PumpState}
 
 -- the pieces that a tap of the first way is shown of a piece that goes the second way
 abbrev pub pieces_of : Way → Way → List ℕ → List (List ℕ)
@@ -19,10 +18,6 @@ pieces_of Input Input piece = piece ∷ []
 pieces_of Input Output piece = []
 pieces_of Output Input piece = []
 pieces_of Output Output piece = piece ∷ []
-
--- a count of 64 bits has the number of these bytes added to it, or is the greatest that fits
-abbrev pub CountsMore : (old new : ℕ) → List ℕ → Type 0
-CountsMore old new bytes = old < 2 ^ 64 → new ≡ min (old + length bytes) (2 ^ 64 - 1)
 
 -- why a pump would end here: if a part of it tells no reason, because no reads are left
 abbrev pub why_of : Result (Unit {0}) Why → Why
@@ -70,44 +65,30 @@ StaysOpen Failed old new = ⊤
 StaysOpen OutOfMemory old new = ⊤
 
 -- bytes were given to a writer, which took a front of them, or all
-pub record Wrote (writer writer' : Option (List ℕ)) (given : List ℕ) (result : Result (Unit {0}) Why) (put put' : ℕ) : Type 0 where
+pub record Wrote (writer writer' : Option (List ℕ)) (given : List ℕ) (result : Result (Unit {0}) Why) : Type 0 where
   pub written : List ℕ
   pub writes : Appends writer writer' written
-  pub counts_written : CountsMore put put' written
   pub all : IsWritten (why_of result) given written
   pub reason : IfErr result IsOfWriter
 
--- a moment of a pump: what it works on, and how many bytes it has read and written
-pub record Moment : Type 0 where
-  pub ends : Ends
-  pub taken : ℕ
-  pub given : ℕ
-
--- a moment of a pump that works on these four; the functions are those of `ends_of`
-abbrev pub moment_of : {R W S : Type 0} → KnownBytes R → KnownBytes W → Writing S → R → W → Chain S → PumpState → Moment
-moment_of remaining contents rest reader writer chain work =
-    record { ends = ends_of remaining contents rest reader writer chain; taken = work.taken; given = work.given }
-
--- the same for a reader that has this left
-abbrev pub moment_with : {W S : Type 0} → Option (List ℕ) → KnownBytes W → Writing S → W → Chain S → PumpState → Moment
-moment_with left contents rest writer chain work = moment_of (λ known. known) contents rest left writer chain work
+-- what a pump works on, where its reader has this left; the functions are those of `ends_of`
+abbrev pub ends_with : {W S : Type 0} → Option (List ℕ) → KnownBytes W → Writing S → W → Chain S → Ends
+ends_with left contents rest writer chain = ends_of (λ known. known) contents rest left writer chain
 
 -- a text that was read went through the chain to the writer; the tap saw at most this many pieces
-pub record Passes (text : List ℕ) (old new : Moment) (tap : Shown) (most : ℕ) (why : Why) : Type 0 where
+pub record Passes (text : List ℕ) (old new : Ends) (tap : Shown) (most : ℕ) (why : Why) : Type 0 where
   pub given : List ℕ
   pub written : List ℕ
   pub pieces : List (List ℕ)
-  pub writes : Appends old.ends.writer new.ends.writer written
-  pub counts_written : CountsMore old.given new.given written
-  pub gave : Gave why new.ends.reader old.ends.chain new.ends.chain text given
+  pub writes : Appends old.writer new.writer written
+  pub gave : Gave why new.reader old.chain new.chain text given
   pub all : IsWritten why given written
   pub shown : tap.shows (is_end why) pieces
   pub joined : concat pieces ≡ pieces_by tap.way text given
   pub few : length pieces ≤ most
 
 -- after this many reads a text was read, and went through
-pub record ReadAndPassed (old new : Moment) (tap : Shown) (times : ℕ) (why : Why) : Type 0 where
+pub record ReadAndPassed (old new : Ends) (tap : Shown) (times : ℕ) (why : Why) : Type 0 where
   pub text : List ℕ
-  pub reads : Consumes old.ends.reader new.ends.reader text
-  pub counts_text : CountsMore old.taken new.taken text
+  pub reads : Consumes old.reader new.reader text
   pub passes : Passes text old new tap times why

@@ -1,5 +1,5 @@
 -- What a pump does.
-use Rattle.std.specs.Prelude.{◌≡◌, ◌⊎◌, ◌-◌, ◌^◌, ◌≤◌, min, ℕ, Bool, true, false, List, ◌∷◌, ◌++◌, length}
+use Rattle.std.specs.Prelude.{◌≡◌, ◌⊎◌, ◌≤◌, ℕ, Bool, true, false, List, ◌∷◌, ◌++◌, length}
 use Rattle.std.specs.List.{concat}
 use Rattle.std.specs.declared.option.Option.{Option}
 use Rattle.std.specs.Io.KnownBytes.{Appends, Consumes, IsAtEnd}
@@ -12,10 +12,6 @@ use Rattle.byte_streams.specs.Taps.{Shown}
 use Rattle.byte_streams.specs.declared.pumping.PumpEnd.{PumpEnd}
 use Rattle.byte_streams.specs.declared.pumping.Why.{Why}
 use Rattle.byte_streams.specs.declared.pumping.Why.TheVariants.{End, ReadFault, WriteFault, ZeroWrite, ReadsOver, Failed, OutOfMemory}
-
--- the number of these bytes, or the greatest number that fits
-abbrev pub count_of : List ℕ → ℕ
-count_of bytes = min (length bytes) (2 ^ 64 - 1)
 
 abbrev pub is_end : Why → Bool
 is_end End = true
@@ -74,18 +70,16 @@ abbrev pub ends_of : {R W S : Type 0} → KnownBytes R → KnownBytes W → Writ
 ends_of remaining contents rest reader writer chain =
     record { reader = remaining reader; writer = contents writer; chain = through rest (wrappers_of chain) }
 
--- A pump read a text, the chain gave bytes of it, and a front of these was written. `times` is how often the pump read at most.
-pub record Pumped (old new : Ends) (tap : Shown) (times : ℕ) (end : PumpEnd) : Type 0 where
+-- A pump read a text, the chain gave bytes of it, and a front of these was written. Its tap saw at most one piece a read.
+pub record Pumped (old new : Ends) (tap : Shown) (end : PumpEnd) : Type 0 where
   pub text : List ℕ
   pub given : List ℕ
   pub written : List ℕ
   pub pieces : List (List ℕ)
   pub reads : Consumes old.reader new.reader text
   pub writes : Appends old.writer new.writer written
-  pub counts_text : end.taken ≡ count_of text
-  pub counts_written : end.given ≡ count_of written
   pub gave : Gave end.why new.reader old.chain new.chain text given
   pub all : IsWritten end.why given written
   pub shown : tap.shows (is_end end.why) pieces
   pub joined : concat pieces ≡ pieces_by tap.way text given
-  pub one_each : length pieces ≤ times
+  pub one_each : length pieces ≤ end.reads

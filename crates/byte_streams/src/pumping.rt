@@ -1,19 +1,16 @@
 //! The pump: it reads a stream, passes each piece through a chain, and writes what that gives.
-ghost use Rattle.std.specs.Prelude.{◌≡◌, ◌≢◌, ◌⊎◌, ◌+◌, ◌-◌, ◌<◌, ◌≤◌, length, true, false, IfOk};
+ghost use Rattle.std.specs.Prelude.{◌≡◌, ◌≢◌, ◌⊎◌, ◌^◌, ◌<◌, ◌≤◌, length, true, false, IfOk};
 ghost use Rattle.byte_streams.specs.Chains.{has_failed, wrappers_of};
 ghost use Rattle.byte_streams.specs.Wrappers.{through};
 ghost use Rattle.byte_streams.specs.Pumps.{Pumped, ends_of};
 ghost use Rattle.byte_streams.specs.Taps.{shown_to};
-ghost use Rattle.byte_streams.specs.Pieces.{StaysOpen, ReadAndPassed, moment_of};
+ghost use Rattle.byte_streams.specs.Pieces.{StaysOpen, ReadAndPassed};
 
-use crate::pieces::{PumpState, pump_piece};
-use crate::read_count::ReadCount;
+use crate::pieces::{Reads, pump_piece};
 use crate::tap::Tap;
 use crate::{Chain, LineWrapper};
 use std::alloc::{AllocError, Global};
 use std::io::{Read, Write};
-use std::marker::Brand;
-use std::sync::ledger::{Blank, Ledger};
 
 /// The length of the first reads. A stream that carries little takes little memory.
 const FIRST: usize = 4 * 1024;
@@ -43,10 +40,8 @@ pub enum Why {
 /// How a pump ended.
 #[derive(Clone, Copy)]
 pub struct PumpEnd {
-    /// How many bytes were read, up to 2^64 - 1.
-    pub taken: u64,
-    /// How many bytes were written, up to 2^64 - 1.
-    pub given: u64,
+    /// How many reads it made.
+    pub reads: u64,
     /// Why it ended.
     pub why: Why,
 }
@@ -70,17 +65,25 @@ pub fn pump<R: Read, W: Write, S: LineWrapper, T: Tap>(
 ) -> PumpEnd
     ensures pumped { Pumped (ends_of R.remaining W.contents S.rest reader.old writer.old chain.old)
         (ends_of R.remaining W.contents S.rest reader.new writer.new chain.new)
-        (shown_to T.watches T.sees T.ends tap.old tap.new) most_reads result }
+        (shown_to T.watches T.sees T.ends tap.old tap.new) result }
+    ensures over { result.why ≡ Why.ReadsOver → result.reads ≡ most_reads }
+    ensures within { result.reads ≤ most_reads }
     ensures failed { result.why ≡ Why.Failed → has_failed chain.old ≡ true }
-    ensures gives_none { has_failed chain.old ≡ true → (result.why ≢ Why.End) × (result.given ≡ 0) }
+    ensures gives_none { has_failed chain.old ≡ true → result.why ≢ Why.End }
     ensures unfinished { (result.why ≡ Why.ReadFault) ⊎ (result.why ≡ Why.ReadsOver)
         → has_failed chain.new ≡ has_failed chain.old }
     ensures wholes { through S.whole (wrappers_of chain.new) ≡ through S.whole (wrappers_of chain.old) }
 {
-    pump_from::<R, W, S, T, Brand>(alloc, reader, writer, chain, tap, most_reads, Blank::new(1))
+    match new_room(alloc) {
+        Ok(mut room) => pump_into(alloc, reader, writer, chain, tap, most_reads, &mut room),
+        Err(_) => PumpEnd {
+            reads: 0,
+            why: Why::OutOfMemory,
+        },
+    }
 }
 
-/// Makes room for the reads of `pump_once`. Its caller keeps it from call to call.
+/// Makes room for the reads of `pump_into`. Its caller keeps it from call to call.
 ///
 /// # Errors
 /// There was no memory.
@@ -90,209 +93,88 @@ pub fn new_room(alloc: Global) -> Result<Vec<u8>, AllocError>
     vec![in alloc; 0u8; FIRST]
 }
 
-/// Pumps a stream as `pump` does, with one read at most, into room that its caller keeps from call to call.
+/// Pumps a stream as `pump` does, into room that its caller keeps from call to call.
 ///
-/// So a caller can see to something else between two reads: at `ReadsOver` the read was made, what the chain gave was
+/// So a caller can see to something else between two reads: at `ReadsOver` the reads were made, what the chain gave was
 /// written, and the next call goes on there. The room is for reads alone, and nothing of it is used by the next call;
 /// it grows where a read filled it. At every end there is room for the next read.
-pub fn pump_once<R: Read, W: Write, S: LineWrapper, T: Tap>(
+pub fn pump_into<R: Read, W: Write, S: LineWrapper, T: Tap>(
     alloc: Global,
     reader: &mut R,
     writer: &mut W,
     chain: &mut Chain<S>,
     tap: &mut T,
+    most_reads: u64,
     room: &mut Vec<u8>,
 ) -> PumpEnd
     requires room { 0 < length room.old.items }
     ensures pumped { Pumped (ends_of R.remaining W.contents S.rest reader.old writer.old chain.old)
         (ends_of R.remaining W.contents S.rest reader.new writer.new chain.new)
-        (shown_to T.watches T.sees T.ends tap.old tap.new) 1 result }
+        (shown_to T.watches T.sees T.ends tap.old tap.new) result }
+    ensures over { result.why ≡ Why.ReadsOver → result.reads ≡ most_reads }
+    ensures within { result.reads ≤ most_reads }
     ensures failed { result.why ≡ Why.Failed → has_failed chain.old ≡ true }
-    ensures gives_none { has_failed chain.old ≡ true → (result.why ≢ Why.End) × (result.given ≡ 0) }
+    ensures gives_none { has_failed chain.old ≡ true → result.why ≢ Why.End }
     ensures unfinished { (result.why ≡ Why.ReadFault) ⊎ (result.why ≡ Why.ReadsOver)
         → has_failed chain.new ≡ has_failed chain.old }
     ensures wholes { through S.whole (wrappers_of chain.new) ≡ through S.whole (wrappers_of chain.old) }
     ensures room { 0 < length room.new.items }
 {
-    pump_once_from::<R, W, S, T, Brand>(alloc, reader, writer, chain, tap, room, Blank::new(1))
-}
-
-/// Pumps a stream as `pump` does, and counts its reads.
-pub fn pump_counted<R: Read, W: Write, S: LineWrapper, T: Tap, L: Ledger>(
-    alloc: Global,
-    reader: &mut R,
-    writer: &mut W,
-    chain: &mut Chain<S>,
-    tap: &mut T,
-    most_reads: u64,
-    times: &mut ReadCount<L>,
-) -> PumpEnd
-    ensures pumped { Pumped (ends_of R.remaining W.contents S.rest reader.old writer.old chain.old)
-        (ends_of R.remaining W.contents S.rest reader.new writer.new chain.new)
-        (shown_to T.watches T.sees T.ends tap.old tap.new) (times.new - times.old) result }
-    ensures over { result.why ≡ Why.ReadsOver → times.new ≡ times.old + most_reads }
-    ensures within { (times.old ≤ times.new) × (times.new ≤ times.old + most_reads) }
-    ensures failed { result.why ≡ Why.Failed → has_failed chain.old ≡ true }
-    ensures gives_none { has_failed chain.old ≡ true → (result.why ≢ Why.End) × (result.given ≡ 0) }
-    ensures unfinished { (result.why ≡ Why.ReadFault) ⊎ (result.why ≡ Why.ReadsOver)
-        → has_failed chain.new ≡ has_failed chain.old }
-    ensures wholes { through S.whole (wrappers_of chain.new) ≡ through S.whole (wrappers_of chain.old) }
-{
-    let Ok(mut buffer) = new_room(alloc) else {
-        return PumpEnd {
-            taken: 0,
-            given: 0,
-            why: Why::OutOfMemory,
-        };
-    };
-    pump_through(
-        alloc,
-        reader,
-        writer,
-        chain,
-        tap,
-        most_reads,
-        &mut buffer,
-        times,
-    )
-}
-
-/// Pumps a stream as `pump_counted` does, by reads into this buffer, which may grow.
-fn pump_through<R: Read, W: Write, S: LineWrapper, T: Tap, L: Ledger>(
-    alloc: Global,
-    reader: &mut R,
-    writer: &mut W,
-    chain: &mut Chain<S>,
-    tap: &mut T,
-    most_reads: u64,
-    buffer: &mut Vec<u8>,
-    times: &mut ReadCount<L>,
-) -> PumpEnd
-    requires room { 0 < length buffer.old.items }
-    ensures pumped { Pumped (ends_of R.remaining W.contents S.rest reader.old writer.old chain.old)
-        (ends_of R.remaining W.contents S.rest reader.new writer.new chain.new)
-        (shown_to T.watches T.sees T.ends tap.old tap.new) (times.new - times.old) result }
-    ensures over { result.why ≡ Why.ReadsOver → times.new ≡ times.old + most_reads }
-    ensures within { (times.old ≤ times.new) × (times.new ≤ times.old + most_reads) }
-    ensures failed { result.why ≡ Why.Failed → has_failed chain.old ≡ true }
-    ensures gives_none { has_failed chain.old ≡ true → (result.why ≢ Why.End) × (result.given ≡ 0) }
-    ensures unfinished { (result.why ≡ Why.ReadFault) ⊎ (result.why ≡ Why.ReadsOver)
-        → has_failed chain.new ≡ has_failed chain.old }
-    ensures wholes { through S.whole (wrappers_of chain.new) ≡ through S.whole (wrappers_of chain.old) }
-    ensures room { 0 < length buffer.new.items }
-{
+    let mut reads = Reads { made: 0, last: 0 };
     if chain.has_failed() {
         return PumpEnd {
-            taken: 0,
-            given: 0,
+            reads: 0,
             why: Why::Failed,
         };
     }
-    let mut work = PumpState {
-        taken: 0,
-        given: 0,
-        out: Vec::new(alloc),
-    };
     let why = run(
-        reader, writer, chain, tap, most_reads, buffer, &mut work, times,
+        alloc, reader, writer, chain, tap, most_reads, room, &mut reads,
     );
     PumpEnd {
-        taken: work.taken,
-        given: work.given,
+        reads: reads.made,
         why,
     }
 }
 
 /// Reads and passes on until that ends the pump, or no reads are left.
-fn run<R: Read, W: Write, S: LineWrapper, T: Tap, L: Ledger>(
+fn run<R: Read, W: Write, S: LineWrapper, T: Tap>(
+    alloc: Global,
     reader: &mut R,
     writer: &mut W,
     chain: &mut Chain<S>,
     tap: &mut T,
     most_reads: u64,
     buffer: &mut Vec<u8>,
-    work: &mut PumpState,
-    times: &mut ReadCount<L>,
+    reads: &mut Reads,
 ) -> Why
+    requires start { reads.old.made ≡ 0 }
     requires room { 0 < length buffer.old.items }
     requires goes_on { has_failed chain.old ≡ false }
-    ensures read_and_passed { ReadAndPassed (moment_of R.remaining W.contents S.rest reader.old writer.old chain.old work.old)
-        (moment_of R.remaining W.contents S.rest reader.new writer.new chain.new work.new)
-        (shown_to T.watches T.sees T.ends tap.old tap.new) (times.new - times.old) result }
-    ensures over { result ≡ Why.ReadsOver → times.new ≡ times.old + most_reads }
-    ensures within { (times.old ≤ times.new) × (times.new ≤ times.old + most_reads) }
+    ensures read_and_passed { ReadAndPassed (ends_of R.remaining W.contents S.rest reader.old writer.old chain.old)
+        (ends_of R.remaining W.contents S.rest reader.new writer.new chain.new)
+        (shown_to T.watches T.sees T.ends tap.old tap.new) reads.new.made result }
+    ensures over { result ≡ Why.ReadsOver → reads.new.made ≡ most_reads }
+    ensures within { reads.new.made ≤ most_reads }
     ensures not_failed { result ≢ Why.Failed }
     ensures stays_open { StaysOpen result (has_failed chain.old) (has_failed chain.new) }
     ensures wholes { through S.whole (wrappers_of chain.new) ≡ through S.whole (wrappers_of chain.old) }
     ensures room { 0 < length buffer.new.items }
 {
+    let mut out = Vec::new(alloc);
     for _read in 0..most_reads {
-        let before = work.taken;
-        if let Err(why) = pump_piece(reader, writer, chain, tap, buffer, work, times) {
+        if let Err(why) = pump_piece(reader, writer, chain, tap, buffer, &mut out, reads) {
             return why;
         }
-        widen(buffer, work.taken.saturating_sub(before));
+        widen(buffer, reads.last);
     }
     Why::ReadsOver
 }
 
 /// Makes room for longer reads if a read filled the buffer. Without memory the buffer stays as it is.
-fn widen(buffer: &mut Vec<u8>, got: u64)
+fn widen(buffer: &mut Vec<u8>, got: usize)
     ensures { 0 < length buffer.old.items → 0 < length buffer.new.items }
 {
-    if buffer.len() < MOST && buffer.len() as u64 <= got {
+    if buffer.len() < MOST && buffer.len() <= got {
         let _ = buffer.resize(MOST, 0);
     }
-}
-
-/// Pumps a stream, with a count of its reads that is made for it.
-fn pump_from<R: Read, W: Write, S: LineWrapper, T: Tap, L: Ledger>(
-    alloc: Global,
-    reader: &mut R,
-    writer: &mut W,
-    chain: &mut Chain<S>,
-    tap: &mut T,
-    most_reads: u64,
-    blank: Blank,
-) -> PumpEnd
-    requires name { blank.name ≡ L.name }
-    requires parts { (blank.parts ≡ L.parts) × (0 < blank.parts) }
-    ensures pumped { Pumped (ends_of R.remaining W.contents S.rest reader.old writer.old chain.old)
-        (ends_of R.remaining W.contents S.rest reader.new writer.new chain.new)
-        (shown_to T.watches T.sees T.ends tap.old tap.new) most_reads result }
-    ensures failed { result.why ≡ Why.Failed → has_failed chain.old ≡ true }
-    ensures gives_none { has_failed chain.old ≡ true → (result.why ≢ Why.End) × (result.given ≡ 0) }
-    ensures unfinished { (result.why ≡ Why.ReadFault) ⊎ (result.why ≡ Why.ReadsOver)
-        → has_failed chain.new ≡ has_failed chain.old }
-    ensures wholes { through S.whole (wrappers_of chain.new) ≡ through S.whole (wrappers_of chain.old) }
-{
-    let mut times = ReadCount::<L>::new(blank);
-    pump_counted(alloc, reader, writer, chain, tap, most_reads, &mut times)
-}
-
-/// Pumps a stream with one read at most, with a count of its reads that is made for it.
-fn pump_once_from<R: Read, W: Write, S: LineWrapper, T: Tap, L: Ledger>(
-    alloc: Global,
-    reader: &mut R,
-    writer: &mut W,
-    chain: &mut Chain<S>,
-    tap: &mut T,
-    room: &mut Vec<u8>,
-    blank: Blank,
-) -> PumpEnd
-    requires room { 0 < length room.old.items }
-    requires name { blank.name ≡ L.name }
-    requires parts { (blank.parts ≡ L.parts) × (0 < blank.parts) }
-    ensures pumped { Pumped (ends_of R.remaining W.contents S.rest reader.old writer.old chain.old)
-        (ends_of R.remaining W.contents S.rest reader.new writer.new chain.new)
-        (shown_to T.watches T.sees T.ends tap.old tap.new) 1 result }
-    ensures failed { result.why ≡ Why.Failed → has_failed chain.old ≡ true }
-    ensures gives_none { has_failed chain.old ≡ true → (result.why ≢ Why.End) × (result.given ≡ 0) }
-    ensures unfinished { (result.why ≡ Why.ReadFault) ⊎ (result.why ≡ Why.ReadsOver)
-        → has_failed chain.new ≡ has_failed chain.old }
-    ensures wholes { through S.whole (wrappers_of chain.new) ≡ through S.whole (wrappers_of chain.old) }
-    ensures room { 0 < length room.new.items }
-{
-    let mut times = ReadCount::<L>::new(blank);
-    pump_through(alloc, reader, writer, chain, tap, 1, room, &mut times)
 }

@@ -260,7 +260,7 @@ fn is_later(last: u64, at: u64) -> bool
 fn write_text<W: Write>(bytes: &[u8], writer: &mut W) -> Result<(), LogFault>
     ensures { Takes bytes.now (W.contents writer.old) (W.contents writer.new) result }
 {
-    match write_out(bytes, writer, &mut 0) {
+    match write_out(bytes, writer) {
         Ok(()) => Ok(()),
         Err(_) => Err(LogFault::WriteFault),
     }

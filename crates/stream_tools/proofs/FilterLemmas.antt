@@ -63,9 +63,9 @@ left_by why.Failed old new nothing r' text given written gave all =
 left_by why.OutOfMemory old new nothing r' text given written gave all =
     record { left = gave.0 []; makes = front_left old text given written gave all; leaves = tt }
 
-pub came : {old new : Ends} {tap : Shown} {steps : ℕ} {end : PumpEnd} {answer : Result (Unit {0}) FilterFault} → answer ≡ answer_of end.why → Pumped old new tap steps end → new.chain [] ≡ []
+pub came : {old new : Ends} {tap : Shown} {end : PumpEnd} {answer : Result (Unit {0}) FilterFault} → answer ≡ answer_of end.why → Pumped old new tap end → new.chain [] ≡ []
     → Came old.chain old.reader new.reader old.writer new.writer answer
-came {old} {new} {tap} {steps} {end} is p nothing =
+came {old} {new} {tap} {end} is p nothing =
     let l : Left end.why old.chain new.reader p.text p.written = left_by end.why old.chain new.chain nothing new.reader p.text p.given p.written p.gave p.all in
     subst (λ a. Came old.chain old.reader new.reader old.writer new.writer a) (sym is)
     (record { text = p.text; written = p.written; left = l.left; reads = p.reads; writes = p.writes; makes = l.makes; leaves = l.leaves })

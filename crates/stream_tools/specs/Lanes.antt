@@ -1,7 +1,5 @@
 -- What became of what was handed over to a pump, and of a program between two pumps.
-use Rattle.std.specs.Prelude.{◌≡◌, ◌≢◌, ◌^◌, ℕ, List, [], false, Option, None}
-use Rattle.std.specs.Borrow.{Bor}
-use Rattle.std.specs.Fn.{FnOnceReturnsAt, Once}
+use Rattle.std.specs.Prelude.{◌≡◌, ◌≢◌, ◌^◌, ℕ, List, [], false, None}
 use Rattle.byte_streams.specs.Pumps.{KnownBytes, Pumped, ends_of}
 use Rattle.byte_streams.specs.Recorders.{number_of, way_of, writer_of}
 use Rattle.byte_streams.specs.Recorders.{has_failed as has_recorder_failed}
@@ -11,8 +9,7 @@ use Rattle.byte_streams.specs.declared.tap.Recorder.{Recorder}
 use Rattle.byte_streams.specs.declared.pumping.PumpEnd.{PumpEnd}
 use Rattle.byte_streams.specs.declared.pumping.Why.TheVariants.{Failed, ReadsOver}
 use Rattle.child_jobs.specs.Programs.{ProgramText}
-use Rattle.byte_streams.specs.Watches.{left_under, reader_of, watch_of}
-use Rattle.byte_streams.specs.declared.watched.Watch.{Watch}
+use Rattle.byte_streams.specs.Watches.{reader_of}
 use Rattle.byte_streams.specs.declared.watched.Watched.{Watched}
 use Rattle.child_jobs.specs.declared.outcome.NotStarted.{NotStarted}
 use Rattle.child_jobs.specs.declared.outcome.StartFault.{StartFault}
@@ -43,24 +40,21 @@ pub record Ran {R W T : Type 0}
   pub writer-now : W
   pub chain-now : Chain FixCr
   pub tap-now : T
-  pub reads : ℕ
   pub pumped : Pumped (ends_of remaining contents fixing reader writer chain)
       (ends_of remaining contents fixing reader-now writer-now chain-now)
-      (shown_to watches sees ends tap tap-now) reads end
-  pub over : end.why ≡ ReadsOver → reads ≡ 2 ^ 40
+      (shown_to watches sees ends tap tap-now) end
+  pub over : end.why ≡ ReadsOver → end.reads ≡ 2 ^ 40
   pub ready : has_failed chain ≡ false → end.why ≢ Failed
 
--- The input of a program: a pump ran from the stream of this lane to a pipe of the program, and ended so. The stream was watched as `watch`, whose
--- calls the first function tells of, says of that pipe; the other functions are those of `Ran`.
-pub record Fed {F I P T : Type 0} (calls : Once F (Bor P × Unit {0}) (Option Watch))
-    (remaining : KnownBytes I) (contents : KnownBytes P)
+-- The input of a program: a pump ran from the stream of this lane, which was watched, to a pipe of the program, and ended so. So nothing is known of
+-- what the stream has left. The functions are those of `Ran`.
+pub record Fed {I P T : Type 0} (contents : KnownBytes P)
     (watches : T → Way) (sees : T → List ℕ → T → Type 0) (ends : T → T → Type 0)
-    (watch : F) (lane : Lane I T) (end : PumpEnd) : Type 0 where
+    (lane : Lane I T) (end : PumpEnd) : Type 0 where
   pub to : P
   pub watched : Watched I
   pub reader : reader_of watched ≡ lane.stream
-  pub under : FnOnceReturnsAt calls watch to (watch_of watched)
-  pub ran : Ran (λ w. left_under (watch_of w) (remaining (reader_of w))) contents watches sees ends watched to lane.chain lane.tap end
+  pub ran : Ran (λ _. None) contents watches sees ends watched to lane.chain lane.tap end
 
 -- The output of a program: a pump ran from a pipe of the program to the stream of this lane, and ended so.
 pub record Drained {P O T : Type 0}

@@ -1,18 +1,17 @@
 //! `fixcrio` and `recordio`: a program between two pumps.
-ghost use Rattle.std.specs.Prelude.{◌≡◌, ◌⊎◌, ◌+◌, ◌^◌, ◌<◌, None, Err, IfErr, IfOk, IfSome, Some, IsTrue};
+ghost use Rattle.std.specs.Prelude.{◌≡◌, ◌⊎◌, None, Err, IfErr, IfOk, IfSome, Some, IsTrue};
 ghost use Rattle.std.specs.Thread.{IsSend};
 ghost use Rattle.stream_tools.specs.Lanes.{Drained, Fed, IsNotStarted, IsRunOf, Ran, not_served, refusal_of};
 ghost use Rattle.stream_tools.specs.declared.between.BetweenFault.TheVariants.{OutOfMemory};
 
 use crate::filter::MOST_READS;
-use byte_streams::{Chain, FixCr, PumpEnd, ReadCount, Tap, Watch, Watched, Why, pump_counted};
+use byte_streams::{Chain, FixCr, PumpEnd, Tap, Watched, pump};
 use child_jobs::{Environment, Job, Launcher, NotStarted, Program, StartFault, Status, WaitFault};
 use std::alloc::{AllocError, Global};
 use std::io::{Read, Write};
-use std::marker::Brand;
+use std::os::fd::{AsRawFd, RawFd};
 use std::snapshot::Snapshot;
 use std::sync::Wait;
-use std::sync::ledger::{Blank, Ledger};
 use std::thread::{Promise, Threads};
 use std::{fmt, thread};
 
@@ -112,7 +111,7 @@ pub trait Between {
     type Writer: Write + Drop;
 
     /// The end of the pipe that it reads.
-    type Input: Write + Send + Drop;
+    type Input: Write + AsRawFd + Send + Drop;
 
     /// The end of the pipe that it writes.
     type Output: Read + Drop;
@@ -145,32 +144,27 @@ pub struct RunEnd {
 /// standard output goes to `output`. The program's input is closed when the one pump ends. When both have ended the
 /// program is waited for, once. A pump that ended before its reader did is no error of the run.
 ///
-/// `watch` makes a watch of the input and of the pipe to the program, if there can be one: under it the input ends,
-/// too, where the program reads no more. Without one the pump of the input ends with its reader, or with the first
-/// write that the program does not take.
+/// The input, which is read from the descriptor `source`, ends too where the program reads no more.
 ///
 /// # Errors
 /// `CannotStart` where the program could not be started, gave no pipe ends, or no thread could be had for its input; in
 /// the last two cases it was killed and waited for. `Device` where the wait failed; `OutOfMemory`.
-pub fn run_between<H, B, T, F>(
+pub fn run_between<H, B, T>(
     rt: &H,
     alloc: Global,
     launcher: B::Launcher,
     run: (&Program, &Environment),
     lanes: Lanes<B, T>,
-    watch: F,
+    source: RawFd,
 ) -> Result<RunEnd, BetweenFailure>
 where
     H: Threads + Wait + Sync,
     B: Between,
-    F: FnOnce(&B::Input) -> Option<Watch>,
     T: Tap + Send + Drop,
-    requires watch { F.IsAlwaysCallable watch }
     requires may { IsTrue (B.Launcher.may launcher run.0.now run.1.now) }
     ensures ended { IfOk result (λ end. (job : B.Job)
         × IsRunOf B.Job.program B.Job.environment run.entry.0.now run.entry.1.now job × B.Job.ended job end.status) }
-    ensures input { IfOk result (λ end. Fed F.FnOnce B.Reader.remaining B.Input.contents
-        T.watches T.sees T.ends watch lanes.0 end.input) }
+    ensures input { IfOk result (λ end. Fed B.Input.contents T.watches T.sees T.ends lanes.0 end.input) }
     ensures output { IfOk result (λ end. Drained B.Output.remaining B.Writer.contents
         T.watches T.sees T.ends lanes.1 end.output) }
     ensures fault { IfErr result (λ why. IsNotStarted B.Launcher.refuses launcher run.entry.0.now run.entry.1.now why
@@ -183,29 +177,26 @@ where
             return Err(BetweenFailure::from(refusal));
         }
     };
-    let pumps = serve::<H, B, T, F>(rt, alloc, &mut job, lanes, watch);
+    let pumps = serve::<H, B, T>(rt, alloc, &mut job, lanes, source);
     end_of(job, pumps)
 }
 
 /// Pumps both ways until both pumps have ended. It answers how they ended; `None` where it could not be without the
 /// program's pipe ends and a thread for its input.
-fn serve<H, B, T, F>(
+fn serve<H, B, T>(
     rt: &H,
     alloc: Global,
     job: &mut B::Job,
     lanes: Lanes<B, T>,
-    watch: F,
+    source: RawFd,
 ) -> Option<(PumpEnd, PumpEnd)>
 where
     H: Threads + Wait + Sync,
     B: Between,
-    F: FnOnce(&B::Input) -> Option<Watch>,
     T: Tap + Send + Drop,
-    requires { F.IsAlwaysCallable watch }
     ensures program { B.Job.program job.new ≡ B.Job.program job.old }
     ensures environment { B.Job.environment job.new ≡ B.Job.environment job.old }
-    ensures input { IfSome result (λ pumps. Fed F.FnOnce B.Reader.remaining B.Input.contents
-        T.watches T.sees T.ends watch lanes.0 pumps.0) }
+    ensures input { IfSome result (λ pumps. Fed B.Input.contents T.watches T.sees T.ends lanes.0 pumps.0) }
     ensures output { IfSome result (λ pumps. Drained B.Output.remaining B.Writer.contents
         T.watches T.sees T.ends lanes.1 pumps.1) }
 {
@@ -215,7 +206,7 @@ where
     };
     let (input, output) = lanes;
     let input = Lane {
-        stream: Watched::new(input.stream, watch(&to)),
+        stream: Watched::new(input.stream, source, to.as_raw_fd()),
         chain: input.chain,
         tap: input.tap,
     };
@@ -323,52 +314,19 @@ where
 /// closes both.
 fn run_pump<R: Read + Drop, W: Write + Drop, T: Tap + Drop>(
     alloc: Global,
-    reader: R,
-    writer: W,
-    chain: Chain<FixCr>,
-    tap: T,
-) -> PumpEnd
-    ensures ran { Ran R.remaining W.contents T.watches T.sees T.ends reader writer chain tap result }
-{
-    pump_from::<R, W, T, Brand>(alloc, reader, writer, chain, tap, Blank::new(1))
-}
-
-/// `run_pump` with a ledger that counts the reads.
-fn pump_from<R: Read + Drop, W: Write + Drop, T: Tap + Drop, L: Ledger>(
-    alloc: Global,
-    reader: R,
-    writer: W,
-    chain: Chain<FixCr>,
-    tap: T,
-    blank: Blank,
-) -> PumpEnd
-    requires name { blank.name ≡ L.name }
-    requires parts { (blank.parts ≡ L.parts) × (0 < blank.parts) }
-    ensures ran { Ran R.remaining W.contents T.watches T.sees T.ends reader writer chain tap result }
-{
-    let mut reads = ReadCount::<L>::new(blank);
-    pump_counting(alloc, reader, writer, chain, tap, &mut reads)
-}
-
-/// `run_pump`, which counts its reads.
-fn pump_counting<R: Read + Drop, W: Write + Drop, T: Tap + Drop, L: Ledger>(
-    alloc: Global,
     mut reader: R,
     mut writer: W,
     mut chain: Chain<FixCr>,
     mut tap: T,
-    reads: &mut ReadCount<L>,
 ) -> PumpEnd
     ensures ran { Ran R.remaining W.contents T.watches T.sees T.ends reader writer chain tap result }
-    ensures over { result.why ≡ Why.ReadsOver → reads.new ≡ reads.old + 2 ^ 40 }
 {
-    pump_counted(
+    pump(
         alloc,
         &mut reader,
         &mut writer,
         &mut chain,
         &mut tap,
         MOST_READS,
-        reads,
     )
 }

@@ -7,10 +7,11 @@ ghost use Rattle.stream_tools.specs.declared.between.Lane.{Lane};
 
 use crate::between::{Between, BetweenFailure, Lane, RunEnd, run_between};
 use crate::filter::chain_of;
-use byte_streams::{FixCr, NoTap, Tap, Watch};
+use byte_streams::{FixCr, NoTap, Tap};
 use child_jobs::{Environment, Job, Launcher, Program};
 use std::alloc::{AllocError, Global};
 use std::io::{Read, Write};
+use std::os::fd::RawFd;
 use std::sync::Wait;
 use std::thread::Threads;
 
@@ -18,26 +19,24 @@ use std::thread::Threads;
 ///
 /// # Errors
 /// As of `run_between`; `OutOfMemory` also where nothing was started.
-pub fn fix_between<H, B, F>(
+pub fn fix_between<H, B>(
     rt: &H,
     alloc: Global,
     launcher: B::Launcher,
     run: (&Program, &Environment),
     streams: (B::Reader, B::Writer),
-    watch: F,
+    source: RawFd,
 ) -> Result<RunEnd, BetweenFailure>
 where
     H: Threads + Wait + Sync,
     B: Between,
     B::Launcher: Drop,
-    F: FnOnce(&B::Input) -> Option<Watch> + Drop,
-    requires watch { F.IsAlwaysCallable watch }
     requires may { IsTrue (B.Launcher.may launcher run.0.now run.1.now) }
     ensures ended { IfOk result (λ end. (job : B.Job)
         × IsRunOf B.Job.program B.Job.environment run.entry.0.now run.entry.1.now job × B.Job.ended job end.status) }
     ensures input { IfOk result (λ end. (lane : Lane B.Reader NoTap) × IsFixing streams.0 lane
-        × Fed F.FnOnce B.Reader.remaining B.Input.contents
-        ⟦<NoTap as Tap>⟧.watches ⟦<NoTap as Tap>⟧.sees ⟦<NoTap as Tap>⟧.ends watch lane end.input) }
+        × Fed B.Input.contents
+        ⟦<NoTap as Tap>⟧.watches ⟦<NoTap as Tap>⟧.sees ⟦<NoTap as Tap>⟧.ends lane end.input) }
     ensures output { IfOk result (λ end. (lane : Lane B.Writer NoTap) × IsFixing streams.1 lane
         × Drained B.Output.remaining B.Writer.contents
         ⟦<NoTap as Tap>⟧.watches ⟦<NoTap as Tap>⟧.sees ⟦<NoTap as Tap>⟧.ends lane end.output) }
@@ -48,7 +47,7 @@ where
     let (input, output) = streams;
     let input = fix_lane(alloc, input)?;
     let output = fix_lane(alloc, output)?;
-    run_between::<H, B, _, F>(rt, alloc, launcher, run, (input, output), watch)
+    run_between::<H, B, _>(rt, alloc, launcher, run, (input, output), source)
 }
 
 /// A lane over a stream, in which each line gets a carriage return where it has none.

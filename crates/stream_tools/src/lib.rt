@@ -5,7 +5,7 @@
 //! process was given. An `OsLauncher` starts programs of the system: its job tells the program and variables with which
 //! it was started, and the words and variables that the system was given are proved to be exactly those. Tested only:
 //! where a program is looked for, that the system runs it, that a fault is one of the system's, and that nobody killed
-//! a program before its status was told. Under a watch nothing is known of what the input has left.
+//! a program before its status was told. Nothing is known of what the input of a program has left, which is watched.
 #![tactic(auto)]
 
 pub mod between;

@@ -8,11 +8,12 @@ ghost use Rattle.stream_tools.specs.Programs.{recorder_number};
 ghost use Rattle.stream_tools.specs.declared.between.Lane.{Lane};
 
 use crate::between::{Between, BetweenFailure, Lane, RunEnd, run_between};
-use byte_streams::{Chain, Recorder, Tap, Watch, Way};
+use byte_streams::{Chain, Recorder, Tap, Way};
 use child_jobs::{Environment, Job, Launcher, Program};
 use server_words::number_in;
 use std::alloc::Global;
 use std::io::{Read, Write};
+use std::os::fd::RawFd;
 use std::sync::Wait;
 use std::thread::Threads;
 
@@ -21,28 +22,26 @@ use std::thread::Threads;
 ///
 /// # Errors
 /// As of `run_between`.
-pub fn record_between<H, B, W, F>(
+pub fn record_between<H, B, W>(
     rt: &H,
     alloc: Global,
     launcher: B::Launcher,
     run: (&Program, &Environment),
     streams: (B::Reader, B::Writer),
     errors: (W, W),
-    watch: F,
+    source: RawFd,
 ) -> Result<RunEnd, BetweenFailure>
 where
     H: Threads + Wait + Sync,
     B: Between,
     W: Write + Send + Drop,
-    F: FnOnce(&B::Input) -> Option<Watch>,
-    requires watch { F.IsAlwaysCallable watch }
     requires may { IsTrue (B.Launcher.may launcher run.0.now run.1.now) }
     ensures ended { IfOk result (λ end. (job : B.Job)
         × IsRunOf B.Job.program B.Job.environment run.entry.0.now run.entry.1.now job × B.Job.ended job end.status) }
     ensures input { IfOk result (λ end. (lane : Lane B.Reader (Recorder W))
         × IsRecording (recorder_number (value_of run.entry.1.now (codes "TCPREMOTEPORT"))) Input errors.0 streams.0 lane
-        × Fed F.FnOnce B.Reader.remaining B.Input.contents
-        ⟦<Recorder<W> as Tap>⟧.watches ⟦<Recorder<W> as Tap>⟧.sees ⟦<Recorder<W> as Tap>⟧.ends watch lane end.input) }
+        × Fed B.Input.contents
+        ⟦<Recorder<W> as Tap>⟧.watches ⟦<Recorder<W> as Tap>⟧.sees ⟦<Recorder<W> as Tap>⟧.ends lane end.input) }
     ensures output { IfOk result (λ end. (lane : Lane B.Writer (Recorder W))
         × IsRecording (recorder_number (value_of run.entry.1.now (codes "TCPREMOTEPORT"))) Output errors.1 streams.1 lane
         × Drained B.Output.remaining B.Writer.contents
@@ -53,7 +52,7 @@ where
     let number = number_told(run.1);
     let input = record_lane(alloc, streams.0, number, Way::Input, errors.0);
     let output = record_lane(alloc, streams.1, number, Way::Output, errors.1);
-    run_between::<H, B, _, F>(rt, alloc, launcher, run, (input, output), watch)
+    run_between::<H, B, _>(rt, alloc, launcher, run, (input, output), source)
 }
 
 /// A lane over a stream that changes nothing, which is recorded with this number and way.

@@ -6,14 +6,14 @@ use crate::launcher::OsLauncher;
 use crate::recordio::record_between;
 use crate::search::SearchPath;
 use crate::started::{SystemGiven, inherited_variables, program_of};
-use byte_streams::{Patient, Watch};
+use byte_streams::Patient;
 use child_jobs::{Environment, Program, Status};
 use std::alloc::{AllocError, Global};
 use std::fs::Files;
 use std::io;
 use std::io::{Printer, Write};
 use std::marker::PhantomData;
-use std::os::fd::{AsRawFd, RawFd};
+use std::os::fd::RawFd;
 use std::process::{ChildStdin, ChildStdout};
 use std::rt::Env;
 use std::sync::Wait;
@@ -81,9 +81,14 @@ where
         Patient::new(rt, rt.reader()),
         Patient::new(rt, io::writer(rt)),
     );
-    let end = fix_between::<_, OverSystem<'_, R>, _>(rt, alloc, launcher, run, streams, |pipe| {
-        Some(Watch::new(STANDARD_INPUT, pipe.as_raw_fd()))
-    });
+    let end = fix_between::<_, OverSystem<'_, R>>(
+        rt,
+        alloc,
+        launcher,
+        run,
+        streams,
+        STANDARD_INPUT,
+    );
     drop(told);
     Ok(end?.status)
 }
@@ -107,14 +112,14 @@ where
         Patient::new(rt, rt.reader()),
         Patient::new(rt, io::writer(rt)),
     );
-    let end = record_between::<_, OverSystem<'_, R>, _, _>(
+    let end = record_between::<_, OverSystem<'_, R>, _>(
         rt,
         alloc,
         launcher,
         run,
         streams,
         writers,
-        |pipe| { Some(Watch::new(STANDARD_INPUT, pipe.as_raw_fd())) },
+        STANDARD_INPUT,
     );
     drop(told);
     Ok(end?.status)

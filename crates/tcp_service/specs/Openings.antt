@@ -17,7 +17,7 @@ use Rattle.rule_lookup.specs.declared.decision.WhenMissing.{WhenMissing}
 use Rattle.rule_lookup.specs.declared.source.FindFault.TheVariants as find
 use Rattle.server_yard.specs.Passes.{pass_bytes, trust_in}
 use Rattle.server_yard.specs.declared.pass.Pass.{Pass}
-use Rattle.tcp_service.specs.declared.host.Rules.{Ghosts as Places}
+use Rattle.tcp_service.specs.declared.host.Rules.{Ghosts as RulesGhosts}
 
 -- the bytes of the rules file, or that there is none, and what is decided without one
 pub record Opening : Type 0 where
@@ -36,14 +36,14 @@ StoodIn {D} its honest state (Some name) there =
     (folder : D) × its folder × (IsTrue honest → there ≡ content (state folder) name)
 
 -- what stood where the rules stand, when they were opened for the connection with this serial
-abbrev pub StoodFor : {R D F : Type 0} → Places R D → Ghosts D F → R → (serial : ℕ) → Option (List ℕ) → Type 0
-StoodFor places folders rules serial there =
-    StoodIn (places.its rules serial) folders.honest folders.state (places.named rules) there
+abbrev pub StoodFor : {R D F : Type 0} → RulesGhosts R D → Ghosts D F → R → (serial : ℕ) → Option (List ℕ) → Type 0
+StoodFor theirs folders rules serial there =
+    StoodIn (theirs.its rules serial) folders.honest folders.state (theirs.named rules) there
 
 -- this was found for a connection; without a file this is decided
-pub record IsFoundFor {R D F : Type 0} (places : Places R D) (folders : Ghosts D F) (rules : R) (missing : WhenMissing)
+pub record IsFoundFor {R D F : Type 0} (theirs : RulesGhosts R D) (folders : Ghosts D F) (rules : R) (missing : WhenMissing)
     (serial : ℕ) (found : Opening) : Type 0 where
-  pub stood : StoodFor places folders rules serial found.bytes
+  pub stood : StoodFor theirs folders rules serial found.bytes
   pub without : found.missing ≡ missing
 
 -- what it decides of a peer: by the first lookup form that the file has

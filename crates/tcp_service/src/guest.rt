@@ -87,8 +87,7 @@ impl<X: Write> Guest<X> {
             identity,
             mut connection,
         } = self;
-        let mut given = 0;
-        match write_out(banner, &mut connection, &mut given) {
+        match write_out(banner, &mut connection) {
             Ok(()) => Ok(Greeted {
                 identity,
                 connection,

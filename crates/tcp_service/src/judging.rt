@@ -106,7 +106,8 @@ impl<G: ServiceGround> Context<'_, G> {
     /// notes the decision.
     ///
     /// # Errors
-    /// The rules can't be opened or read, or are damaged; or there was no memory. It is not decided.
+    /// The rules can't be opened or read, or are damaged; or there was no memory. It is not decided. If it may not be
+    /// decided now, that counts as a fault of the directory.
     #[tactic(auto, using(crate::proofs::Served::given_up_anyway))]
     pub(crate) fn decide<X>(&self, greeted: &Greeted<'_, X>) -> Result<Judged, GivenUp>
         requires greeted { greeted_with greeted.now ≡ self.now.plan.now.banner }
@@ -139,14 +140,14 @@ impl<G: ServiceGround> Context<'_, G> {
         let noted = self.decided(&pass, &greeted.identity, decision);
         drop(pass);
         match noted {
-            Ok(noted) => Ok(Judged {
+            Some(noted) => Ok(Judged {
                 noted,
                 verdict,
                 environment,
             }),
-            Err(cause) => {
+            None => {
                 drop(environment);
-                Err(GivenUp::by(cause))
+                Err(GivenUp::by(DropCause::Directory))
             }
         }
     }

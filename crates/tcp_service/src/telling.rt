@@ -1,8 +1,8 @@
 //! What is told of a connection. Each of its events is made in a yard that all share. Before the yard's lock is let go
 //! the log is told of it, so that its lines stand in the order of events; only an opening has no lines. What the yard
 //! answered goes on with the connection, and in the end says that it is over.
-ghost use Rattle.std.specs.Prelude.{◌≡◌, ◌≢◌, IfErr, IfOk, List, None, OnErr, Some, is_ok, true};
-ghost use Rattle.child_jobs.specs.declared.outcome.DropCause.TheVariants.{Banner, Denied, Directory};
+ghost use Rattle.std.specs.Prelude.{◌≡◌, ◌≢◌, IfOk, IfSome, List, None, OnErr, Some, is_ok, true};
+ghost use Rattle.child_jobs.specs.declared.outcome.DropCause.TheVariants.{Banner, Denied};
 ghost use Rattle.server_events.specs.declared.event.Event.TheVariants as event;
 ghost use Rattle.server_events.specs.declared.state.Connection.{Connection};
 ghost use Rattle.server_log.specs.Reports.{Tells, TellsItsClient, reported_answer, reported_event};
@@ -80,21 +80,17 @@ impl<G: ServiceGround> Context<'_, G> {
     ghost use Rattle.tcp_service.specs.Ends.{begun_decided, begun_last, noted_event, over_decided, over_end};
     ghost use Rattle.tcp_service.specs.Greetings.{cut_identity, cut_with, greeted_identity, greeted_with};
 
-    /// The connection that opened this was decided so.
-    ///
-    /// # Errors
-    /// It may not be decided now, which counts as a fault of the directory.
+    /// The connection that opened this was decided so. `None` if it may not be decided now.
     #[tactic(auto, using(crate::proofs::Asked::asked_for, crate::proofs::Asked::told_as, crate::proofs::Asked::just_made, crate::proofs::Asked::its_client))]
     pub(crate) fn decided(
         &self,
         pass: &Pass<G::Places, G::File>,
         identity: &Identity,
         decision: Decision,
-    ) -> Result<Noted, DropCause>
+    ) -> Option<Noted>
         requires decides { Decides
             G.File.honest G.File.sound (opening_of G.File.bytes G.Places.missing pass.now) identity.now.peer decision }
-        ensures noted { IfOk result (λ noted. noted_event noted ≡ event.Decided (pass_serial pass.now) decision) }
-        ensures cause { IfErr result (λ why. why ≡ Directory) }
+        ensures noted { IfSome result (λ noted. noted_event noted ≡ event.Decided (pass_serial pass.now) decision) }
     {
         let peer = &identity.peer;
         let told = Told::Decided {
@@ -109,10 +105,10 @@ impl<G: ServiceGround> Context<'_, G> {
         let decision = shared.report(answer, told);
         drop(shared);
         if decision.was_made() {
-            Ok(Noted { decision })
+            Some(Noted { decision })
         } else {
             drop(decision);
-            Err(DropCause::Directory)
+            None
         }
     }
 

@@ -4,7 +4,7 @@ ghost use Rattle.tcp_streams.specs.Recorders.{Records};
 ghost use Rattle.tcp_streams.specs.Wrappers.{IsNewChain};
 
 use crate::wrappers::{Wrapper, chain_of};
-use byte_streams::{Chain, Recorder, Way, Why, new_room, pump_once};
+use byte_streams::{Chain, Recorder, Way, Why, new_room, pump_into};
 use server_words::LineWrapperName;
 use std::alloc::{AllocError, Global};
 use std::io;
@@ -101,12 +101,13 @@ impl<W: Write + Drop> Lane<W> {
             to,
             kept: Vec::new(self.alloc),
         };
-        let end = pump_once(
+        let end = pump_into(
             self.alloc,
             &mut reader,
             &mut writer,
             &mut self.chain,
             &mut self.recorder,
+            1,
             &mut self.room,
         );
         let KeepingWriter { to: _, kept } = writer;

@@ -7,7 +7,7 @@
 //!
 //! The start of a `Connection` is proved: a job has the program and the variables that were asked for. It pumps its
 //! connection exactly if the mode says so. Each way then goes through new line wrappers in their order, and is recorded
-//! if that is asked for. Each piece passes by `byte_streams::pump_once`. `proofs/Crossing.antt` proves that a job may
+//! if that is asked for. Each piece passes by `byte_streams::pump_into`. `proofs/Crossing.antt` proves that a job may
 //! go to another thread. Only tests show which descriptors a program gets, that a pump writes what it keeps before it
 //! reads on, that neither way holds up the other, and the bounds on clients that take nothing (`Passage`).
 #![tactic(auto)]

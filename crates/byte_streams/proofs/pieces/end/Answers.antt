@@ -5,7 +5,7 @@ use Rattle.byte_streams.proofs.pieces.end.Goals as goal
 
 pub returns-in-Err-OutOfMemory-clause-passed : goal.returns-in-Err-OutOfMemory-clause-passed
 returns-in-Err-OutOfMemory-clause-passed g c =
-    λ left at_end. passes_nothing g.T.Tap.watches g.T.Tap.sees g.T.Tap.ends c.args.tap.now 1 OutOfMemory refl refl (_, λ later. refl) refl refl
+    λ left at_end. passes_nothing g.T.Tap.watches g.T.Tap.sees g.T.Tap.ends c.args.tap.now 1 OutOfMemory refl (_, λ later. refl) refl refl
 
 pub returns-in-Err-clause-passed : goal.returns-in-Err-clause-passed
 returns-in-Err-clause-passed g c =

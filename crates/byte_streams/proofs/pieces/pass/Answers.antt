@@ -15,4 +15,4 @@ returns-in-Ok-clause-passed g c =
 
 pub returns-in-Err-OutOfMemory-clause-passed : goal.returns-in-Err-OutOfMemory-clause-passed
 returns-in-Err-OutOfMemory-clause-passed g c =
-    λ left. passes_none g.T.Tap.watches g.T.Tap.sees g.T.Tap.ends c.args.tap.now c.show.new.tap c.show.ensures.shown refl refl
+    λ left. passes_none g.T.Tap.watches g.T.Tap.sees g.T.Tap.ends c.args.tap.now c.show.new.tap c.show.ensures.shown refl

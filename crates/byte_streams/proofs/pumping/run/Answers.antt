@@ -9,8 +9,8 @@ use Rattle.byte_streams.proofs.pumping.run.Goals as goal
 
 pub loop-read-init : goal.loop-read-init
 loop-read-init g c = record {
-  read_and_passed = read_and_passed_nothing g.T.Tap.watches g.T.Tap.sees g.T.Tap.ends c.args.tap.now 0 ReadsOver (Keeps-refl _) refl refl refl (λ later. refl) refl refl;
-  times = omega arith;
+  read_and_passed = read_and_passed_nothing g.T.Tap.watches g.T.Tap.sees g.T.Tap.ends c.args.tap.now 0 ReadsOver (Keeps-refl _) refl (λ later. refl) refl refl;
+  counted = c.requires.start;
   room = c.requires.room;
   goes_on = c.requires.goes_on;
   wholes = refl;
@@ -23,7 +23,7 @@ loop-read-preserved g c =
     let told = c.in_default.ensures in
     record {
       read_and_passed = read_and_passed_more g.T.Tap.watches g.T.Tap.sees g.T.Tap.ends c.args.tap.now c.loop-read.tap c.pump_piece.new.tap ReadsOver so_far.same so_far.read_and_passed told.read_and_passed;
-      times = omega arith;
+      counted = omega arith;
       room = c.widen.ensures (omega (
         arith,
         so_far.room,
@@ -46,7 +46,7 @@ returns-in-Err g c =
     record {
       read_and_passed = read_and_passed_times (omega arith) (read_and_passed_more g.T.Tap.watches g.T.Tap.sees g.T.Tap.ends c.args.tap.now c.loop-read.tap c.pump_piece.new.tap c.in-Err.why so_far.same so_far.read_and_passed told.read_and_passed);
       over = λ is. absurd (subst IsOfPiece is told.reason);
-      within = (omega arith, omega arith);
+      within = omega arith;
       not_failed = λ is. subst IsOfPiece is told.reason;
       stays_open = subst (λ b. StaysOpen c.in-Err.why b (has_failed c.pump_piece.new.chain)) went_on told.stays_open;
       wholes = told.wholes ∙ so_far.wholes;
@@ -67,7 +67,7 @@ returns g c =
     record {
       read_and_passed = read_and_passed_times (omega arith) so_far.read_and_passed;
       over = λ is. omega arith;
-      within = (omega arith, omega arith);
+      within = omega arith;
       not_failed = λ is. cc;
       stays_open = so_far.goes_on ∙ sym c.requires.goes_on;
       wholes = so_far.wholes;
@@ -75,4 +75,4 @@ returns g c =
     }
 
 pub pump_piece-requires : goal.pump_piece-requires
-pump_piece-requires g c = record { room = subst (λ items. 0 < length items) (sym c.deref_mut.ensures.value) c.loop-read.invariant.room; goes_on = c.loop-read.invariant.goes_on }
+pump_piece-requires g c = record { room = subst (λ items. 0 < length items) (sym c.deref_mut.ensures.value) c.loop-read.invariant.room; few = omega arith; goes_on = c.loop-read.invariant.goes_on }

@@ -1,5 +1,3 @@
-use Rattle.std.proofs.Common.{refl, sym, subst}
-use Rattle.std.specs.Fn.{FnOnceReturnsAt}
 use Rattle.std.proofs.lemmas.Option.{IfSome_then}
 use Rattle.stream_tools.proofs.between.serve.Goals as goal
 
@@ -9,7 +7,6 @@ returns-clause-input g c =
       to = c.in-Some.to;
       watched = c.new.result;
       reader = c.new.ensures.reader;
-      under = subst (λ watch. FnOnceReturnsAt g.F.FnOnce c.args.watch c.in-Some.to watch) (sym c.new.ensures.watch) (_, c.watch.ensures, refl);
       ran = ran;
     })
 
