@@ -51,15 +51,6 @@ impl Address {
     {
         self.text.as_str()
     }
-
-    /// An equal address.
-    pub fn copy(&self) -> Result<Address, AllocError>
-        ensures { IfOk result (λ a. a ≡ self.now) }
-    {
-        Ok(Address {
-            text: self.text.clone()?,
-        })
-    }
 }
 
 /// What made a decision.
@@ -73,20 +64,7 @@ pub enum Found {
     NoFile,
 }
 
-impl Found {
-    fn copy(&self) -> Result<Found, AllocError>
-        ensures { IfOk result (λ f. f ≡ self.now) }
-    {
-        match self {
-            Found::Address(address) => Ok(Found::Address(address.copy()?)),
-            Found::Default => Ok(Found::Default),
-            Found::NoFile => Ok(Found::NoFile),
-        }
-    }
-}
-
 /// A decision about a connection.
-#[derive(Drop)]
 pub struct Decision {
     /// What made it.
     pub found: Found,
@@ -96,18 +74,20 @@ pub struct Decision {
     pub settings: Settings,
 }
 
-impl Decision {
-    /// An equal decision.
-    pub fn copy(&self, alloc: Global) -> Result<Decision, AllocError>
-        ensures { IfOk result (λ d. d ≡ self.now) }
-    {
-        Ok(Decision {
-            found: self.found.copy()?,
-            verdict: self.verdict,
-            settings: self.settings.copy(alloc)?,
-        })
+// Written out, the drop of all that it has is proved here alone.
+impl Drop for Decision {
+    fn drop(self) {
+        let Decision {
+            found,
+            verdict: _,
+            settings,
+        } = self;
+        drop(found);
+        drop(settings);
     }
+}
 
+impl Decision {
     fn by_default(alloc: Global) -> Decision
         ensures { result ≡ by_default }
     {

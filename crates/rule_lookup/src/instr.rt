@@ -45,15 +45,6 @@ impl Setting {
     {
         self.value.as_str()
     }
-
-    fn copy(&self) -> Result<Setting, AllocError>
-        ensures { IfOk result (λ s. s ≡ self.now) }
-    {
-        Ok(Setting {
-            name: self.name.clone()?,
-            value: self.value.clone()?,
-        })
-    }
 }
 
 /// The settings of an instruction, in order. Each name is not empty and has no `=`; names and values are UTF-8 without
@@ -113,17 +104,6 @@ impl Settings {
         ensures settings { AreSettings self.now }
     {
         self.list.as_slice()
-    }
-
-    /// Equal settings.
-    pub fn copy(&self, alloc: Global) -> Result<Settings, AllocError>
-        ensures { IfOk result (λ s. s ≡ self.now) }
-    {
-        let mut list = Vec::with_capacity(alloc, self.list.len())?;
-        for setting in &self.list {
-            list.push(setting.copy()?)?;
-        }
-        Ok(Settings { list })
     }
 }
 

@@ -5,6 +5,7 @@ ghost use Rattle.server_yard.specs.Passes.{IsDecidedBy};
 ghost use Rattle.server_yard.specs.Seating.{leaver};
 
 use crate::children::{end_child, start_child};
+use crate::copies::copy_of;
 use crate::receipts::Receipts;
 use child_jobs::{DropCause, Place};
 use dir_calls::{Dir, RulesFile};
@@ -119,7 +120,7 @@ impl<L: Assumptions, N: Callers, D: Dir + Drop, R: Wait + Clock> At<'_, L, N, D,
             return None;
         };
         let verdict = decision.verdict;
-        let kept = decision.copy(self.alloc);
+        let kept = copy_of(self.alloc, &decision);
         let turn = Decided {
             pass,
             peer,

@@ -4,6 +4,7 @@
 
 mod calls;
 mod children;
+mod copies;
 mod eight_threads;
 mod mem_disk;
 mod receipts;
