@@ -6,7 +6,6 @@ ghost use Rattle.server_events.specs.Reports.{is_admission};
 ghost use Rattle.server_events.specs.ServerState.{after, may_come, may_happen, phase_after};
 
 use crate::report::Report;
-use crate::same::{is_same_decision, is_same_peer};
 use crate::state::State;
 use child_jobs::{DropCause, StartFault, Status};
 use dir_calls::Phase;
@@ -57,52 +56,6 @@ pub enum Event {
     StepFailed { phase: Phase },
     /// All connections and the installation under way ended at once. It may happen at any time. Serials go on.
     Stop,
-}
-
-impl Event {
-    /// Whether it is the same event as another one, in all. It takes no memory.
-    pub fn is_same(&self, other: &Event) -> bool
-        ensures { IsTrue result ↔ (self.now ≡ other.now) }
-    {
-        match self {
-            Event::Admitted { serial: n, peer: p } => {
-                matches!(other, Event::Admitted { serial, peer } if serial == n && is_same_peer(p, peer))
-            }
-            Event::Opened {
-                serial: n,
-                there: t,
-            } => { matches!(other, Event::Opened { serial, there } if serial == n && there == t) }
-            Event::Decided {
-                serial: n,
-                decision: d,
-            } => {
-                matches!(other, Event::Decided { serial, decision } if serial == n && is_same_decision(d, decision))
-            }
-            Event::Started { serial: n } =>
-                matches!(other, Event::Started { serial } if serial == n),
-            Event::StartFailed {
-                serial: n,
-                fault: f,
-            } => {
-                matches!(other, Event::StartFailed { serial, fault } if serial == n && fault == f)
-            }
-            Event::Ended {
-                serial: n,
-                status: s,
-            } => { matches!(other, Event::Ended { serial, status } if serial == n && status == s) }
-            Event::Retired { serial: n } =>
-                matches!(other, Event::Retired { serial } if serial == n),
-            Event::Dropped {
-                serial: n,
-                cause: c,
-            } => { matches!(other, Event::Dropped { serial, cause } if serial == n && cause == c) }
-            Event::Stepped { phase: p } => matches!(other, Event::Stepped { phase } if phase == p),
-            Event::StepFailed { phase: p } => {
-                matches!(other, Event::StepFailed { phase } if phase == p)
-            }
-            Event::Stop => matches!(other, Event::Stop),
-        }
-    }
 }
 
 impl State {

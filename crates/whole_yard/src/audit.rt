@@ -3,6 +3,7 @@ ghost use Rattle.std.specs.Prelude.{◌↔◌, ◌<◌, IsTrue, IfErr, OnOk, len
 ghost use Rattle.whole_yard.specs.Audits.{AreRight, AreRightBefore, IsAbove, IsFirstWrong, IsRight, Rise, StandsAtItsPosition};
 
 use crate::receipt::Receipt;
+use crate::same::is_same_event;
 use server_events::Noted;
 
 /// The position in the list of the first receipt that is wrong, counted from 0.
@@ -46,7 +47,7 @@ fn stands_at_its_position(notes: &[Noted], receipt: &Receipt) -> bool
         return false;
     }
     match notes.get((receipt.at - 1) as usize) {
-        Some(note) => note.caller == receipt.caller && note.event.is_same(&receipt.event),
+        Some(note) => note.caller == receipt.caller && is_same_event(&note.event, &receipt.event),
         None => false,
     }
 }

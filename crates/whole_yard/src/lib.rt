@@ -23,6 +23,7 @@ pub mod install_turns;
 pub mod laws;
 pub mod open_turn;
 pub mod receipt;
+mod same;
 pub mod site;
 pub mod step;
 mod stepping;

@@ -1,6 +1,6 @@
 use Rattle.std.proofs.Common.{◌≡◌, ℕ, length, take, sym, ap, ◌∙◌, rules, arith}
 use Rattle.std.proofs.Math.Seq.{take-length}
-use Rattle.server_events.proofs.same.is_same_list.Goals as goal
+use Rattle.whole_yard.proofs.same.is_same_list.Goals as goal
 
 pub returns : goal.returns
 returns c =
