@@ -1,7 +1,6 @@
 -- What a journal is made of, and what it tells.
 use Rattle.std.specs.Prelude.{ℕ, Bool, true, List, Option, None, Some, nat_le}
 use Rattle.std.specs.Option.{option_map}
-use Rattle.rule_lookup.specs.Pairs.{Rule}
 use Rattle.server_events.specs.Journals.{Books}
 use Rattle.server_events.specs.declared.journal.Journal.{Journal}
 use Rattle.server_events.specs.declared.journal.Noted.{Noted}
@@ -11,17 +10,12 @@ use Rattle.server_events.specs.declared.journal.Stored.{Stored}
 abbrev pub notes_of : Option Stored → Option (List Noted)
 notes_of stored = option_map (λ s. s.notes.items) stored
 
--- the rules of the installations, in order; if it stores them
-abbrev pub lists_of : Option Stored → Option (List (List Rule))
-lists_of stored = option_map (λ s. s.lists.items) stored
-
 -- what it tells
 abbrev pub books_of_journal : Journal → Books
 books_of_journal journal = record {
   report = journal.report;
   count = journal.events;
   notes = notes_of journal.stored;
-  lists = lists_of journal.stored;
 }
 
 -- whether what it stores has room for this many events more; one that stores none needs none

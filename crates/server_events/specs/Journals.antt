@@ -1,6 +1,5 @@
 -- What a journal tells: the report and the number of the events that were noted, and what it stores of them.
-use Rattle.std.specs.Prelude.{◌≡◌, ◌<◌, ◌+◌, ◌-◌, ◌^◌, ℕ, List, [], ◌∷◌, ◌++◌, length, take, max, min, Bool, true, Option, ⊤, if◌then◌else◌}
-use Rattle.rule_lookup.specs.Pairs.{Rule}
+use Rattle.std.specs.Prelude.{◌≡◌, ◌<◌, ◌+◌, ◌-◌, ◌^◌, ℕ, List, [], ◌∷◌, ◌++◌, length, max, min, Bool, true, Option, ⊤, if◌then◌else◌}
 use Rattle.server_events.specs.declared.event.Event.{Event}
 use Rattle.server_events.specs.declared.report.Report.{Report}
 use Rattle.server_events.specs.Reports.{report_of}
@@ -8,12 +7,11 @@ use Rattle.server_events.specs.ServerState.{Effect, lets_in, brings, lets_go, en
 use Rattle.server_events.specs.declared.journal.Noted.{Noted}
 
 -- What a journal tells: the report of the noted events, and their number, as far as a u64 counts. If it stores them:
--- the events with their callers, and the rules of the installations, both in order.
+-- the events with their callers, in order.
 pub record Books : Type 0 where
   pub report : Report
   pub count : ℕ
   pub notes : Option (List Noted)
-  pub lists : Option (List (List Rule))
 
 -- one more, as far as a u64 counts
 abbrev pub one_more : ℕ → ℕ
@@ -66,7 +64,3 @@ HasSameRoom old new = (events : ℕ) → new events ≡ old events
 -- there is room for one event more
 abbrev pub HasOneMore : (old new : ℕ → Bool) → Type 0
 HasOneMore old new = (events : ℕ) → new (events + 1) ≡ old events
-
--- a list but for its last
-abbrev pub without_last : {X : Type 0} → List X → List X
-without_last xs = take (length xs - 1) xs

@@ -1,10 +1,9 @@
 //! The journal of a server: its events, kept or only counted.
 ghost use Rattle.std.specs.Prelude.{◌≡◌, ◌≤◌, ℕ, ◌+◌, [], ◌∷◌, ◌++◌, true, option_map, option_copied, IfSome, OnOk, OnErr, vec_len, vec_capacity};
-ghost use Rattle.server_events.specs.Journals.{GoesOn, HasSameRoom, TellsOf, next_report, one_more, without_last};
+ghost use Rattle.server_events.specs.Journals.{GoesOn, HasSameRoom, TellsOf, next_report, one_more};
 
 use crate::event::next;
 use crate::{Event, Report};
-use rule_lines::RuleList;
 use std::alloc::{AllocError, Global};
 
 /// An event, and the number of its caller.
@@ -17,7 +16,7 @@ pub struct Noted {
 }
 
 /// The report of the events of a server and their number. A journal that stores them has each event with its caller
-/// too, and the rules of each installation.
+/// too.
 ///
 /// Noting an event takes no memory: `reserve` takes its room before. No call takes or gives other room than it says.
 #[derive(Drop)]
@@ -32,7 +31,6 @@ pub struct Journal {
 #[derive(Drop)]
 struct Stored {
     notes: Vec<Noted>,
-    lists: Vec<RuleList>,
     // for how many more events there is room
     credit: usize,
     ghost room: { vec_len notes + credit ≤ vec_capacity notes },
@@ -46,7 +44,6 @@ impl Journal {
     pub fn counting() -> Journal
         ensures told { TellsOf (books_of_journal result) [] }
         ensures notes { (books_of_journal result).notes ≡ None }
-        ensures lists { (books_of_journal result).lists ≡ None }
     {
         Journal::new(None)
     }
@@ -55,21 +52,18 @@ impl Journal {
     pub fn storing(alloc: Global) -> Journal
         ensures told { TellsOf (books_of_journal result) [] }
         ensures notes { (books_of_journal result).notes ≡ Some [] }
-        ensures lists { (books_of_journal result).lists ≡ Some [] }
     {
         Journal::new(Some(Stored {
             notes: Vec::new(alloc),
-            lists: Vec::new(alloc),
             credit: 0,
         }))
     }
 
     // One without events, which stores those to come there, if anywhere.
     fn new(stored: Option<Stored>) -> Journal
-        requires empty { IfSome stored (λ s. (s.notes.items ≡ []) × (s.lists.items ≡ [])) }
+        requires empty { IfSome stored (λ s. s.notes.items ≡ []) }
         ensures told { TellsOf (books_of_journal result) [] }
         ensures notes { (books_of_journal result).notes ≡ option_map (λ _. []) stored }
-        ensures lists { (books_of_journal result).lists ≡ option_map (λ _. []) stored }
     {
         Journal {
             report: Report {
@@ -140,7 +134,6 @@ impl Journal {
         ensures count { (books_of_journal self.new).count ≡ one_more (books_of_journal self.old).count }
         ensures notes { (books_of_journal self.new).notes
             ≡ option_map (λ notes. notes ++ record { event = event; caller = caller } ∷ []) (books_of_journal self.old).notes }
-        ensures lists { (books_of_journal self.new).lists ≡ (books_of_journal self.old).lists }
         ensures room { (n : ℕ) → has_room self.new n ≡ has_room self.old (n + 1) }
 
         // so the report and the number stay those of the history, as far as the table allows it
@@ -152,34 +145,6 @@ impl Journal {
             stored.note(event, caller);
         }
     }
-
-    /// Keeps the rules of an installation that begins, if it stores them.
-    ///
-    /// # Errors
-    /// There was no memory. All is as before.
-    pub fn keep_list(&mut self, list: &RuleList) -> Result<(), AllocError>
-        ensures kept { OnOk result (books_of_journal self.new ≡ record (books_of_journal self.old) {
-          lists = option_map (λ all. all ++ list.now ∷ []) (books_of_journal self.old).lists;
-        }) }
-        ensures err { OnErr result (books_of_journal self.new ≡ books_of_journal self.old) }
-        ensures room { HasSameRoom (has_room self.old) (has_room self.new) }
-    {
-        if let Some(stored) = &mut self.stored {
-            stored.lists.push(list.copy()?)?;
-        }
-        Ok(())
-    }
-
-    /// Takes the last list of rules back, if the first step of its installation was not made. It takes no memory.
-    pub fn forget_list(&mut self)
-        ensures forgotten { books_of_journal self.new
-            ≡ record (books_of_journal self.old) { lists = option_map without_last (books_of_journal self.old).lists } }
-        ensures room { HasSameRoom (has_room self.old) (has_room self.new) }
-    {
-        if let Some(stored) = &mut self.stored {
-            stored.lists.pop();
-        }
-    }
 }
 
 impl Stored {
@@ -189,7 +154,7 @@ impl Stored {
     fn reserve(&mut self, events: usize) -> Result<(), AllocError>
         ensures room { OnOk result (self.new.credit ≡ self.old.credit + events) }
         ensures err { OnErr result (self.new.credit ≡ self.old.credit) }
-        ensures same { (self.new.notes.items ≡ self.old.notes.items) × (self.new.lists ≡ self.old.lists) }
+        ensures same { self.new.notes.items ≡ self.old.notes.items }
     {
         let wanted = self.credit.checked_add(events).ok_or(AllocError)?;
         self.notes.reserve(wanted)?;
@@ -201,7 +166,6 @@ impl Stored {
     fn note(&mut self, event: Event, caller: u64)
         requires { 1 ≤ self.old.credit }
         ensures notes { self.new.notes.items ≡ self.old.notes.items ++ record { event = event; caller = caller } ∷ [] }
-        ensures lists { self.new.lists ≡ self.old.lists }
         ensures room { self.new.credit ≡ self.old.credit - 1 }
     {
         self.credit -= 1;

@@ -1,12 +1,11 @@
 -- The history of a yard, and one event more.
 use Rattle.std.proofs.Common.{◌≡◌, ℕ, ◌<◌, ◌^◌, List, [], ◌∷◌, ◌++◌, map, true, false, Option, None, Some, refl, sym, ap, subst, ◌∙◌}
-use Rattle.std.specs.Prelude.{Err, IfSome, Ok, OnErr, OnOk, Result, is_some, option_map}
+use Rattle.std.specs.Prelude.{IfSome, is_some, option_map}
 use Rattle.std.proofs.Props.{props}
 use mathlib.Core.Logic.{∥∥₁_map, ∥∥₁_elim}
 use Rattle.server_events.specs.Journals.{Books, FitsSerial, TellsOf, next_report, one_more}
 use Rattle.server_events.specs.declared.journal.Noted.{Noted}
 use Rattle.server_events.proofs.ReportSteps.{goes_on as told_on}
-use Rattle.rule_lookup.specs.Pairs.{Rule}
 use Rattle.server_events.specs.declared.event.Event.{Event}
 use Rattle.server_events.specs.ServerState.{ServerState, after, is_legal, may_happen, stage_of, start, state_after, without, peer_of}
 use Rattle.server_events.proofs.History.{is_legal-snoc, state_after-snoc}
@@ -91,13 +90,6 @@ has_history_same {books} {books'} {s} {s'} r c n w has =
 -- and of the very same books
 pub has_history_kept : {books books' : Books} {s s' : ServerState} → books' ≡ books → s' ≡ s → HasHistory books s → HasHistory books' s'
 has_history_kept b w has = has_history_same (ap (λ (x : Books). x.report) b) (ap (λ (x : Books). x.count) b) (ap (λ (x : Books). x.notes) b) w has
-
--- a list of rules was stored or not: all else is as before
-pub same_but_lists : {E : Type 0} (result : Result Unit E) (b b' : Books) (lists : Option (List (List Rule)))
-    → OnOk result (b' ≡ record b { lists = lists }) → OnErr result (b' ≡ b)
-    → (b'.report ≡ b.report) × (b'.count ≡ b.count) × (b'.notes ≡ b.notes)
-same_but_lists (Ok done) b b' lists kept err = (ap (λ (x : Books). x.report) kept, ap (λ (x : Books). x.count) kept, ap (λ (x : Books). x.notes) kept)
-same_but_lists (Err fault) b b' lists kept err = (ap (λ (x : Books). x.report) err, ap (λ (x : Books). x.count) err, ap (λ (x : Books). x.notes) err)
 
 -- the serials of a state that a history leads to rise
 pub rises : (books : Books) (s : ServerState) (h : List Event) → IsHistory books s h → Rise 0 s.connections s.last

@@ -2,15 +2,6 @@
 use Rattle.std.proofs.Common.{◌≡◌, ℕ, ◌+◌, ◌≤◌, ◌∙◌, Bool, true, arith}
 use Rattle.std.specs.Prelude.{OnErr, OnOk, Result, Ok, Err}
 
--- what holds by what was said of an answer
-pub on_ok : {X E : Type 0} {P Q : Type 0} (result : Result X E) → OnOk result P → (P → Q) → OnOk result Q
-on_ok (Ok x) is then_so = then_so is
-on_ok (Err fault) is then_so = tt
-
-pub on_err : {X E : Type 0} {P Q : Type 0} (result : Result X E) → OnErr result P → (P → Q) → OnErr result Q
-on_err (Ok x) is then_so = tt
-on_err (Err fault) is then_so = then_so is
-
 -- room that was there is there, whether more was taken or not
 pub kept_room : {E : Type 0} (has had : ℕ → Bool) (needed more : ℕ) (result : Result Unit E) → ((n m : ℕ) → n ≤ m → had m ≡ true → had n ≡ true)
     → OnOk result ((n : ℕ) → had (n + more) ≡ has n) → OnErr result ((n : ℕ) → had n ≡ has n) → has needed ≡ true → had needed ≡ true

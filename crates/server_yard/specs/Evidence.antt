@@ -5,7 +5,7 @@ use Rattle.server_events.specs.declared.event.Event.{Event}
 use Rattle.server_yard.specs.Rolls.{Notes, Roll}
 use Rattle.server_yard.specs.Rooms.{KeepsRoom}
 use Rattle.server_yard.specs.Seating.{IsAddressFull, IsSpent, KeepsSeats}
-use Rattle.server_yard.specs.Yards.{IsSameBeside, yard_roll, yard_seat}
+use Rattle.server_yard.specs.Yards.{yard_roll, yard_seat}
 use Rattle.server_yard.specs.declared.evidence.Made.{Made}
 use Rattle.server_yard.specs.declared.evidence.OutOfTurn.{OutOfTurn}
 use Rattle.server_yard.specs.declared.yard.AdmitFault.{AdmitFault}
@@ -49,15 +49,13 @@ pub record IsLast (event : Event) (roll : Roll) : Type 0 where
   pub noted : Notes event before roll
 
 -- A yard made this event, which is one of a connection, and the answer is its evidence; or the event was out of turn,
--- and nothing changed. In turn or not, the yard is the same beside its events, and so are all seats and the room beyond
--- what its connections need.
+-- and nothing changed. In turn or not, all seats are the same, and so is the room beyond what its connections need.
 pub record Makes {L : Type 0} {p : _} (event : Event) (answer : Result Made OutOfTurn) (old new : Yard L p)
     : Type 0 where
   pub own : is_connections event ≡ true
   pub made : IfOk answer (λ made. IsNoted event made (yard_roll old) (yard_roll new))
   pub out : IfErr answer (λ refusal. (refused_event refusal ≡ event) × (new ≡ old))
   pub room : KeepsRoom (yard_roll old) (yard_roll new)
-  pub same : IsSameBeside old new
   pub seats : KeepsSeats (yard_seat old) (yard_seat new)
 
 -- After so many events, a server that is so lets no client from this address in, for this reason: the last number of an

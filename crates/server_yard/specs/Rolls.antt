@@ -65,11 +65,10 @@ HasHistory books server = ∥ ((history : List Event) × IsHistory books server 
 abbrev pub StoresNothing : Books → Type 0
 StoresNothing books = IfSome books.notes (λ notes. notes ≡ [])
 
--- a journal has no event, and no rules
+-- a journal has no event
 pub record HasNoEvents (books : Books) : Type 0 where
   pub tells : TellsOf books []
   pub stores : StoresNothing books
-  pub no_rules : IfSome books.lists (λ all. all ≡ [])
 
 -- the serial of the connection that has a seat, if it is alive
 abbrev pub serial_at : Option ℕ → ServerState → Option ℕ

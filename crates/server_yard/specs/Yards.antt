@@ -44,10 +44,6 @@ IsRunOf events y = IsRun (yard_books y) (yard_server y) events
 abbrev pub HasRun : {L : Type 0} {p : _} → Yard L p → Type 0
 HasRun y = HasRunTo (yard_books y) (yard_server y)
 
--- a yard keeps the rules of the same installations
-abbrev pub IsSameBeside : {L : Type 0} {p : _} → (old new : Yard L p) → Type 0
-IsSameBeside old new = (yard_books new).lists ≡ (yard_books old).lists
-
 -- the place of an index was given to the connection with this serial, and the table of events allows this event of it
 pub record IsInTurn {L : Type 0} {p : _} (place serial : ℕ) (event : Event) (y : Yard L p) : Type 0 where
   pub seat : yard_seat y place ≡ Some serial

@@ -1,8 +1,8 @@
 //! Installations beside the connections of a yard, and callers: room for the events of installations in the journal,
 //! these events, and for whom events are noted. A server has none of this: each call wants a ledger that says so
 //! (`installs`). The whole yard has, which also has the directory (`whole_yard`).
-ghost use Rattle.std.specs.Prelude.{◌≡◌, ◌++◌, ◌∷◌, [], true, OnOk, OnErr, option_map};
-ghost use Rattle.server_events.specs.Journals.{HasOneMore, HasSameRoom, without_last};
+ghost use Rattle.std.specs.Prelude.{◌≡◌, true, OnOk, OnErr};
+ghost use Rattle.server_events.specs.Journals.{HasOneMore, HasSameRoom};
 ghost use Rattle.server_events.specs.ServerState.{may_happen, is_installations};
 ghost use Rattle.server_yard.specs.Rolls.{IsQuiet, Notes};
 ghost use Rattle.server_yard.specs.Seating.{HasSpareRoom, KeepsSeats};
@@ -10,21 +10,19 @@ ghost use Rattle.server_yard.specs.Seating.{HasSpareRoom, KeepsSeats};
 use crate::evidence::Made;
 use crate::places::Places;
 use crate::yard::Yard;
-use rule_lines::RuleList;
 use server_events::Event;
 use std::alloc::AllocError;
 use std::snapshot::Snapshot;
 
 impl<L: Places> Yard<L> {
     ghost use Rattle.server_yard.specs.Evidence.{IsLast, made_at, made_by, made_event};
-    ghost use Rattle.server_yard.specs.Yards.{IsSameBeside, yard_books, yard_journal, yard_roll, yard_seat, yard_server};
+    ghost use Rattle.server_yard.specs.Yards.{yard_books, yard_journal, yard_roll, yard_seat, yard_server};
 
     /// Says who makes the events that follow: a number from 1, or 0 for nobody, as at first. Nothing else changes.
     pub fn speaker(&mut self, speaker: u64)
         requires installs { L.installs ≡ true }
         ensures speaks { yard_roll self.new ≡ record (yard_roll self.old) { speaker = speaker } }
         ensures journal { yard_journal self.new ≡ yard_journal self.old }
-        ensures same { IsSameBeside self.old self.new }
         ensures seats { KeepsSeats (yard_seat self.old) (yard_seat self.new) }
     {
         self.speaker = speaker;
@@ -48,7 +46,6 @@ impl<L: Places> Yard<L> {
         ensures one_more { OnOk result (HasOneMore (yard_roll self.old).room (yard_roll self.new).room) }
         ensures none { OnErr result (HasSameRoom (yard_roll self.old).room (yard_roll self.new).room) }
         ensures quiet { IsQuiet (yard_roll self.old) (yard_roll self.new) }
-        ensures same { IsSameBeside self.old self.new }
         ensures seats { KeepsSeats (yard_seat self.old) (yard_seat self.new) }
     {
         self.journal.reserve(1)
@@ -60,7 +57,6 @@ impl<L: Places> Yard<L> {
         requires room { HasSpareRoom (yard_roll self.old) }
         ensures one_less { HasOneMore (yard_roll self.new).room (yard_roll self.old).room }
         ensures quiet { IsQuiet (yard_roll self.old) (yard_roll self.new) }
-        ensures same { IsSameBeside self.old self.new }
         ensures seats { KeepsSeats (yard_seat self.old) (yard_seat self.new) }
     {
         self.journal.release(1);
@@ -74,37 +70,11 @@ impl<L: Places> Yard<L> {
         requires room { HasSpareRoom (yard_roll self.old) }
         ensures noted { Notes event (yard_roll self.old) (yard_roll self.new) }
         ensures one_less { HasOneMore (yard_roll self.new).room (yard_roll self.old).room }
-        ensures same { IsSameBeside self.old self.new }
         ensures seats { KeepsSeats (yard_seat self.old) (yard_seat self.new) }
     {
         let Ok(()) = self.state.apply(&event) else {
             unreachable!()
         };
         self.journal.note(event, self.speaker);
-    }
-
-    /// Keeps the rules of an installation that begins.
-    pub fn keep_list(&mut self, list: &RuleList) -> Result<(), AllocError>
-        requires installs { L.installs ≡ true }
-        ensures kept { OnOk result ((yard_books self.new).lists
-            ≡ option_map (λ all. all ++ list.now ∷ []) (yard_books self.old).lists) }
-        ensures err { OnErr result ((yard_books self.new).lists ≡ (yard_books self.old).lists) }
-        ensures room { HasSameRoom (yard_roll self.old).room (yard_roll self.new).room }
-        ensures quiet { IsQuiet (yard_roll self.old) (yard_roll self.new) }
-        ensures seats { KeepsSeats (yard_seat self.old) (yard_seat self.new) }
-    {
-        self.journal.keep_list(list)
-    }
-
-    /// Takes the last rules back, if their installation did not begin.
-    pub fn forget_list(&mut self)
-        requires installs { L.installs ≡ true }
-        ensures forgotten { (yard_books self.new).lists
-            ≡ option_map without_last (yard_books self.old).lists }
-        ensures room { HasSameRoom (yard_roll self.old).room (yard_roll self.new).room }
-        ensures quiet { IsQuiet (yard_roll self.old) (yard_roll self.new) }
-        ensures seats { KeepsSeats (yard_seat self.old) (yard_seat self.new) }
-    {
-        self.journal.forget_list();
     }
 }

@@ -90,7 +90,7 @@ impl<L: Places> Drop for Yard<L> {
 
 impl<L: Places> Yard<L> {
     ghost use Rattle.server_yard.specs.Evidence.{IsNoted, Makes, Refuses, evidence_of};
-    ghost use Rattle.server_yard.specs.Yards.{HasRun, IsInTurn, IsMade, IsSameBeside, MayBeDecided, yard_books, yard_journal, yard_roll, yard_seat, yard_server};
+    ghost use Rattle.server_yard.specs.Yards.{HasRun, IsInTurn, IsMade, MayBeDecided, yard_books, yard_journal, yard_roll, yard_seat, yard_server};
 
     /// A yard without connections.
     ///
@@ -207,7 +207,6 @@ impl<L: Places> Yard<L> {
         ensures seat { IfOk result (λ r. GivesSeat r.1 r.0 (yard_seat self.old) (yard_seat self.new)) }
         ensures refused { OnErr result (IsQuiet (yard_roll self.old) (yard_roll self.new)) }
         ensures room { KeepsRoom (yard_roll self.old) (yard_roll self.new) }
-        ensures same { IsSameBeside self.old self.new }
         ensures same_seats { OnErr result
             (KeepsSerials (yard_server self.old) (yard_seat self.old) (yard_seat self.new)) }
     {
@@ -253,7 +252,6 @@ impl<L: Places> Yard<L> {
         ensures seat { IfOk result (λ r. GivesSeat r.0 serial (yard_seat self.old) (yard_seat self.new)) }
         ensures refused { OnErr result (IsQuiet (yard_roll self.old) (yard_roll self.new)) }
         ensures room { KeepsRoom (yard_roll self.old) (yard_roll self.new) }
-        ensures same { IsSameBeside self.old self.new }
         ensures same_seats { OnErr result
             (KeepsSerials (yard_server self.old) (yard_seat self.old) (yard_seat self.new)) }
     {
@@ -407,7 +405,6 @@ impl<L: Places> Yard<L> {
         requires may { may_happen (yard_server self.old) event ≡ true }
         ensures noted { Notes event (yard_roll self.old) (yard_roll self.new) }
         ensures room { KeepsRoom (yard_roll self.old) (yard_roll self.new) }
-        ensures same { IsSameBeside self.old self.new }
         ensures seats { KeepsSeats (yard_seat self.old) (yard_seat self.new) }
         ensures gone { stage_of serial (yard_server self.new).connections ≡ None }
     {

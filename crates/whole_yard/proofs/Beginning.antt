@@ -5,6 +5,7 @@ use Rattle.dir_calls.specs.Directory.{Directory}
 use Rattle.dir_calls.specs.declared.fault.DirFault.TheVariants.{NoScratch, NoName, Device, OutOfMemory as NoMemory}
 use Rattle.whole_yard.specs.UnderWay as way
 use Rattle.whole_yard.specs.UnderWay.{IsUnderWay}
+use Rattle.rule_lookup.specs.Pairs.{Rule}
 use Rattle.rules_install.specs.Installing.{Installing, next_of, next_phase}
 use Rattle.rules_install.specs.Steps.{Goes, IsOfDevice}
 use Rattle.dir_calls.specs.declared.phase.Phase.{Phase}
@@ -105,8 +106,8 @@ back_of s t next OutOfMemory goes = goes
 
 -- what the installations left then
 pub kept_fault : (d e : Directory) (rules : Option RulesName) (installing : Option Installing) (s t : Installing) (fault : InstallFault) (old new : Roll)
-    (k : KeepsHistory old.books (record { directory = d; rules = rules; server = old.server; installing = installing })) → IsUnderWay k.installed.world s d → old.server.limit < 2 ^ 64 → is_of_disk fault ≡ true → NotesSome (fault_event fault) old new → IsOfDevice (Err fault) → new.books.lists ≡ old.books.lists → way.StepLeads s t d e (Err fault)
-    → KeepsHistory new.books (record { directory = e; rules = rules; server = new.server; installing = None })
+    {lists lists' : Option (List (List Rule))} (k : KeepsHistory old.books lists (record { directory = d; rules = rules; server = old.server; installing = installing })) → IsUnderWay k.installed.world s d → old.server.limit < 2 ^ 64 → is_of_disk fault ≡ true → NotesSome (fault_event fault) old new → IsOfDevice (Err fault) → lists' ≡ lists → way.StepLeads s t d e (Err fault)
+    → KeepsHistory new.books lists' (record { directory = e; rules = rules; server = new.server; installing = None })
 kept_fault d e rules installing s t (Line fault) old new k under small disk noted device same leads = absurd (cc)
 kept_fault d e rules installing s t TooLarge old new k under small disk noted device same leads = absurd (cc)
 kept_fault d e rules installing s t Over old new k under small disk noted device same leads = absurd (cc)

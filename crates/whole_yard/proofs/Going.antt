@@ -95,55 +95,55 @@ phase_then s t next (Err OutOfMemory) old new noted goes was =
 -- ---- what the installations left
 
 -- one step more of a history
-module _ {b b' : Books} (y : YardState) (server : ServerState) (e : Directory) (s t : Installing) (next : Phase)
-    (k : KeepsHistory b y) (under : IsUnderWay k.installed.world s y.directory) (goes_reached : (p : Phase) → Goes next s t (Ok p) → t.reached ≡ Some p) where
+module _ {b b' : Books} {lists lists' : Option (List (List Rule))} (y : YardState) (server : ServerState) (e : Directory) (s t : Installing) (next : Phase)
+    (k : KeepsHistory b lists y) (under : IsUnderWay k.installed.world s y.directory) (goes_reached : (p : Phase) → Goes next s t (Ok p) → t.reached ≡ Some p) where
   pub kept_stepped : (p : Phase) (caller : ℕ) → OneMore b y.server (Stepped p) caller b' server → Goes next s t (Ok p)
       → way.StepLeads s t y.directory e (Ok p)
-      → ((p ≡ Fresh → b'.lists ≡ option_map (λ (all : List (List Rule)). all ++ t.rules ∷ []) b.lists) × (p ≢ Fresh → b'.lists ≡ b.lists))
-      → KeepsHistory b' (record { directory = e; rules = y.rules; server = server; installing = kept_then t (Ok p) })
+      → ((p ≡ Fresh → lists' ≡ option_map (λ (all : List (List Rule)). all ++ t.rules ∷ []) lists) × (p ≢ Fresh → lists' ≡ lists))
+      → KeepsHistory b' lists' (record { directory = e; rules = y.rules; server = server; installing = kept_then t (Ok p) })
   kept_stepped p caller more goes leads texts =
       let moved = stepped k.installed.world s t y.directory e under p goes.2 (goes_reached p goes) leads in
       record {
         history = k.history ++ Stepped p ∷ [];
         is_history = history_on more k.history k.is_history;
-        installed = installed_on b.lists b'.lists y (record { directory = e; rules = y.rules; server = server; installing = kept_then t (Ok p) }) k.history (Stepped p) refl refl more.happens (step_phases p) k.installed moved.0 moved.1 (by p moved.0 moved.1.step.moves moved.1.under texts);
+        installed = installed_on lists lists' y (record { directory = e; rules = y.rules; server = server; installing = kept_then t (Ok p) }) k.history (Stepped p) refl refl more.happens (step_phases p) k.installed moved.0 moved.1 (by p moved.0 moved.1.step.moves moved.1.under texts);
       }
     where
-      by : (p : Phase) (v : World) → Advances p k.installed.world v → HasUnderWay v (kept_then t (Ok p)) → ((p ≡ Fresh → b'.lists ≡ option_map (λ (all : List (List Rule)). all ++ t.rules ∷ []) b.lists) × (p ≢ Fresh → b'.lists ≡ b.lists)) → IfSome b'.lists (λ all. v.accepted ≡ k.installed.first.accepted ++ map Some all)
-      by Fresh v moves has which = subst (λ (o : Option (List (List Rule))). IfSome o (λ all. v.accepted ≡ k.installed.first.accepted ++ map Some all)) (sym (which.0 refl)) (texts_more b.lists k.installed.world v k.installed.first.accepted t.rules (accepted_fresh k.installed.world v t moves has) k.installed.accepted)
-      by Filling v moves has which = subst (λ (o : Option (List (List Rule))). IfSome o (λ all. v.accepted ≡ k.installed.first.accepted ++ map Some all)) (sym (which.1 (λ x. absurd (cc)))) (texts_same b.lists k.installed.world v k.installed.first.accepted (accepted_other Filling k.installed.world v (λ x. absurd (cc)) moves) k.installed.accepted)
-      by Synced v moves has which = subst (λ (o : Option (List (List Rule))). IfSome o (λ all. v.accepted ≡ k.installed.first.accepted ++ map Some all)) (sym (which.1 (λ x. absurd (cc)))) (texts_same b.lists k.installed.world v k.installed.first.accepted (accepted_other Synced k.installed.world v (λ x. absurd (cc)) moves) k.installed.accepted)
-      by Named v moves has which = subst (λ (o : Option (List (List Rule))). IfSome o (λ all. v.accepted ≡ k.installed.first.accepted ++ map Some all)) (sym (which.1 (λ x. absurd (cc)))) (texts_same b.lists k.installed.world v k.installed.first.accepted (accepted_other Named k.installed.world v (λ x. absurd (cc)) moves) k.installed.accepted)
-      by Done v moves has which = subst (λ (o : Option (List (List Rule))). IfSome o (λ all. v.accepted ≡ k.installed.first.accepted ++ map Some all)) (sym (which.1 (λ x. absurd (cc)))) (texts_same b.lists k.installed.world v k.installed.first.accepted (accepted_other Done k.installed.world v (λ x. absurd (cc)) moves) k.installed.accepted)
+      by : (p : Phase) (v : World) → Advances p k.installed.world v → HasUnderWay v (kept_then t (Ok p)) → ((p ≡ Fresh → lists' ≡ option_map (λ (all : List (List Rule)). all ++ t.rules ∷ []) lists) × (p ≢ Fresh → lists' ≡ lists)) → IfSome lists' (λ all. v.accepted ≡ k.installed.first.accepted ++ map Some all)
+      by Fresh v moves has which = subst (λ (o : Option (List (List Rule))). IfSome o (λ all. v.accepted ≡ k.installed.first.accepted ++ map Some all)) (sym (which.0 refl)) (texts_more lists k.installed.world v k.installed.first.accepted t.rules (accepted_fresh k.installed.world v t moves has) k.installed.accepted)
+      by Filling v moves has which = subst (λ (o : Option (List (List Rule))). IfSome o (λ all. v.accepted ≡ k.installed.first.accepted ++ map Some all)) (sym (which.1 (λ x. absurd (cc)))) (texts_same lists k.installed.world v k.installed.first.accepted (accepted_other Filling k.installed.world v (λ x. absurd (cc)) moves) k.installed.accepted)
+      by Synced v moves has which = subst (λ (o : Option (List (List Rule))). IfSome o (λ all. v.accepted ≡ k.installed.first.accepted ++ map Some all)) (sym (which.1 (λ x. absurd (cc)))) (texts_same lists k.installed.world v k.installed.first.accepted (accepted_other Synced k.installed.world v (λ x. absurd (cc)) moves) k.installed.accepted)
+      by Named v moves has which = subst (λ (o : Option (List (List Rule))). IfSome o (λ all. v.accepted ≡ k.installed.first.accepted ++ map Some all)) (sym (which.1 (λ x. absurd (cc)))) (texts_same lists k.installed.world v k.installed.first.accepted (accepted_other Named k.installed.world v (λ x. absurd (cc)) moves) k.installed.accepted)
+      by Done v moves has which = subst (λ (o : Option (List (List Rule))). IfSome o (λ all. v.accepted ≡ k.installed.first.accepted ++ map Some all)) (sym (which.1 (λ x. absurd (cc)))) (texts_same lists k.installed.world v k.installed.first.accepted (accepted_other Done k.installed.world v (λ x. absurd (cc)) moves) k.installed.accepted)
 
-  pub kept_failed : (p : Phase) (caller : ℕ) → OneMore b y.server (StepFailed p) caller b' server → b'.lists ≡ b.lists
+  pub kept_failed : (p : Phase) (caller : ℕ) → OneMore b y.server (StepFailed p) caller b' server → lists' ≡ lists
       → way.StepLeads s t y.directory e (Err (Disk Device p))
-      → KeepsHistory b' (record { directory = e; rules = y.rules; server = server; installing = None })
+      → KeepsHistory b' lists' (record { directory = e; rules = y.rules; server = server; installing = None })
   kept_failed p caller more same leads =
       let moved = step_failed k.installed.world s t y.directory e under p leads in
       record {
         history = k.history ++ StepFailed p ∷ [];
         is_history = history_on more k.history k.is_history;
-        installed = installed_on b.lists b'.lists y (record { directory = e; rules = y.rules; server = server; installing = None }) k.history (StepFailed p) refl refl more.happens (fail_phases p) k.installed moved.0 moved.1 (subst (λ (o : Option (List (List Rule))). IfSome o (λ all. moved.0.accepted ≡ k.installed.first.accepted ++ map Some all)) (sym same) (texts_same b.lists k.installed.world moved.0 k.installed.first.accepted (accepted_failed p k.installed.world moved.0 moved.1.step.moves) k.installed.accepted));
+        installed = installed_on lists lists' y (record { directory = e; rules = y.rules; server = server; installing = None }) k.history (StepFailed p) refl refl more.happens (fail_phases p) k.installed moved.0 moved.1 (subst (λ (o : Option (List (List Rule))). IfSome o (λ all. moved.0.accepted ≡ k.installed.first.accepted ++ map Some all)) (sym same) (texts_same lists k.installed.world moved.0 k.installed.first.accepted (accepted_failed p k.installed.world moved.0 moved.1.step.moves) k.installed.accepted));
       }
 
 -- by the answer of a step
 pub kept_result : (d e : Directory) (rules : Option RulesName) (installing : Option Installing) (s t : Installing) (next : Phase) (result : Result Phase InstallFault) (old new : Roll)
-    (k : KeepsHistory old.books (record { directory = d; rules = rules; server = old.server; installing = installing })) → installing ≡ Some s → IsUnderWay k.installed.world s d → old.server.limit < 2 ^ 64 → NotesSome (step_event result) old new → Goes next s t result → IsOfDevice result
-    → way.StepLeads s t d e result → (step_event result ≡ None → e ≡ d) → next ≢ Fresh → new.books.lists ≡ old.books.lists
-    → KeepsHistory new.books (record { directory = e; rules = rules; server = new.server; installing = kept_then t result })
-kept_result d e rules installing s t next (Ok p) old new k kept under small noted goes device leads still later same =
-    kept_stepped (record { directory = d; rules = rules; server = old.server; installing = installing }) new.server e s t next k under (λ q g. g.1 ∙ ap (λ (x : Phase). Some x) (sym g.0)) p old.speaker (one_more_of (Stepped p) old new small tt noted) goes leads ((λ is. absurd (later (sym goes.0 ∙ is))), λ other. same)
-kept_result d e rules installing s t next (Err (Disk Device p)) old new k kept under small noted goes device leads still later same =
-    kept_failed (record { directory = d; rules = rules; server = old.server; installing = installing }) new.server e s t next k under (λ q g. g.1 ∙ ap (λ (x : Phase). Some x) (sym g.0)) p old.speaker (one_more_of (StepFailed p) old new small tt noted) same leads
-kept_result d e rules installing s t next (Err (Disk NoScratch p)) old new k kept under small noted goes device leads still later same = absurd (cc)
-kept_result d e rules installing s t next (Err (Disk NoName p)) old new k kept under small noted goes device leads still later same = absurd (cc)
-kept_result d e rules installing s t next (Err (Disk NoMemory p)) old new k kept under small noted goes device leads still later same = absurd (cc)
-kept_result d e rules installing s t next (Err (Line fault)) old new k kept under small noted goes device leads still later same = absurd goes
-kept_result d e rules installing s t next (Err TooLarge) old new k kept under small noted goes device leads still later same = absurd goes
-kept_result d e rules installing s t next (Err Over) old new k kept under small noted goes device leads still later same = absurd goes
-kept_result d e rules installing s t next (Err OutOfMemory) old new k kept under small noted goes device leads still later same =
-    kept_quiet noted.tells noted.counts noted.stores same noted.stays (still refl) refl (ap (λ (x : Installing). Some x) goes ∙ sym kept) k
+    (lists : Option (List (List Rule))) (k : KeepsHistory old.books lists (record { directory = d; rules = rules; server = old.server; installing = installing })) → installing ≡ Some s → IsUnderWay k.installed.world s d → old.server.limit < 2 ^ 64 → NotesSome (step_event result) old new → Goes next s t result → IsOfDevice result
+    → way.StepLeads s t d e result → (step_event result ≡ None → e ≡ d) → next ≢ Fresh
+    → KeepsHistory new.books lists (record { directory = e; rules = rules; server = new.server; installing = kept_then t result })
+kept_result d e rules installing s t next (Ok p) old new lists k kept under small noted goes device leads still later =
+    kept_stepped (record { directory = d; rules = rules; server = old.server; installing = installing }) new.server e s t next k under (λ q g. g.1 ∙ ap (λ (x : Phase). Some x) (sym g.0)) p old.speaker (one_more_of (Stepped p) old new small tt noted) goes leads ((λ is. absurd (later (sym goes.0 ∙ is))), λ other. refl)
+kept_result d e rules installing s t next (Err (Disk Device p)) old new lists k kept under small noted goes device leads still later =
+    kept_failed (record { directory = d; rules = rules; server = old.server; installing = installing }) new.server e s t next k under (λ q g. g.1 ∙ ap (λ (x : Phase). Some x) (sym g.0)) p old.speaker (one_more_of (StepFailed p) old new small tt noted) refl leads
+kept_result d e rules installing s t next (Err (Disk NoScratch p)) old new lists k kept under small noted goes device leads still later = absurd (cc)
+kept_result d e rules installing s t next (Err (Disk NoName p)) old new lists k kept under small noted goes device leads still later = absurd (cc)
+kept_result d e rules installing s t next (Err (Disk NoMemory p)) old new lists k kept under small noted goes device leads still later = absurd (cc)
+kept_result d e rules installing s t next (Err (Line fault)) old new lists k kept under small noted goes device leads still later = absurd goes
+kept_result d e rules installing s t next (Err TooLarge) old new lists k kept under small noted goes device leads still later = absurd goes
+kept_result d e rules installing s t next (Err Over) old new lists k kept under small noted goes device leads still later = absurd goes
+kept_result d e rules installing s t next (Err OutOfMemory) old new lists k kept under small noted goes device leads still later =
+    kept_quiet noted.tells noted.counts noted.stores refl noted.stays (still refl) refl (ap (λ (x : Installing). Some x) goes ∙ sym kept) k
 
 -- an installation that was begun comes to no first phase again
 later_at : (o : Option Phase) (patched : Bool) → o ≢ None → next_of o patched ≢ Fresh

@@ -17,6 +17,15 @@ use Rattle.whole_yard.specs.Installed.{IsInstalledBy, installs_of}
 use Rattle.whole_yard.specs.Standing.{Begins, HasUnderWay, YardState}
 use Rattle.whole_yard.proofs.Stepped.{GoesOn}
 
+-- no rules are stored before the first installation
+pub none_stored : {X : Type 0} (o : Option X) (lists : Option (List (List Rule))) → lists ≡ option_map (λ (x : X). []) o
+    → IfSome lists (λ all. all ≡ [])
+none_stored {X} o lists is = subst (λ (l : Option (List (List Rule))). IfSome l (λ all. all ≡ [])) (sym is) (go o)
+  where
+    go : (o : Option X) → IfSome (option_map (λ (x : X). []) o) (λ (all : List (List Rule)). all ≡ [])
+    go None = tt
+    go (Some x) = refl
+
 -- the first world, in which nothing was installed
 pub none_installed : (lists : Option (List (List Rule))) (d : Directory) (rules : Option RulesName) (limit per_address : ℕ)
     → IfSome lists (λ all. all ≡ []) → Begins d rules

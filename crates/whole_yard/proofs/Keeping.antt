@@ -10,11 +10,12 @@ use Rattle.rule_lookup.specs.Lookups.{WhereKnown}
 use Rattle.server_events.specs.ServerState.{Effect, ServerState, lets_in, opens, decides, brings, lets_go, comes_to, fails_at, ends_all, effect, is_connections, is_installations, of_connections, of_installations}
 use Rattle.headline.specs.Worlds.{RulesName, StandsFor}
 use Rattle.server_events.specs.declared.event.Event.{Event}
+use Rattle.server_events.specs.declared.journal.Noted.{Noted}
 use Rattle.headline.proofs.WholeText.{reached_whole}
 use Rattle.whole_yard.specs.Installed.{KeepsHistory, IsWholeFile, installs_of}
 use Rattle.server_yard.specs.Evidence.{Makes}
 use Rattle.server_yard.specs.Passes.{trust_in}
-use Rattle.server_yard.specs.Rolls.{Notes, Roll}
+use Rattle.server_yard.specs.Rolls.{Notes, NotesSome, Roll}
 use Rattle.server_yard.specs.Yards.{yard_roll}
 use Rattle.server_yard.specs.declared.evidence.Made.{Made}
 use Rattle.server_yard.specs.declared.evidence.OutOfTurn.{OutOfTurn}
@@ -56,13 +57,13 @@ one_more_of e old new small fits noted = record {
 }
 
 -- the installations of a history with one event of a connection more left the same
-pub kept_on : {b b' : Books} {y y' : YardState} {e : Event} {caller : ℕ}
-    → is_connections e ≡ true → b'.lists ≡ b.lists → y'.directory ≡ y.directory → y'.rules ≡ y.rules → y'.installing ≡ y.installing
-    → OneMore b y.server e caller b' y'.server → KeepsHistory b y → KeepsHistory b' y'
-kept_on {b} {b'} {y} {y'} {e} {caller} own l same r i more k = record {
+pub kept_on : {b b' : Books} {lists : Option (List (List Rule))} {y y' : YardState} {e : Event} {caller : ℕ}
+    → is_connections e ≡ true → y'.directory ≡ y.directory → y'.rules ≡ y.rules → y'.installing ≡ y.installing
+    → OneMore b y.server e caller b' y'.server → KeepsHistory b lists y → KeepsHistory b' lists y'
+kept_on {b} {b'} {lists} {y} {y'} {e} {caller} own same r i more k = record {
   history = k.history ++ e ∷ [];
   is_history = history_on more k.history k.is_history;
-  installed = installed_same l same r (ap (λ (u : ServerState). u.phase) more.happens ∙ phase_stays y.server e own) i (installs-other k.history e (own_other e own)) k.installed;
+  installed = installed_same refl same r (ap (λ (u : ServerState). u.phase) more.happens ∙ phase_stays y.server e own) i (installs-other k.history e (own_other e own)) k.installed;
 }
 
 -- a yard that is the same beside its events is so over its directory
@@ -76,8 +77,8 @@ whole_of : (text : Option (List Rule)) (bytes : Option (List ℕ)) → StandsFor
 whole_of None bytes none = subst (λ (o : Option (List ℕ)). IsWholeFile o) (sym none) tt
 whole_of (Some rules) bytes stands = subst (λ (o : Option (List ℕ)). IsWholeFile o) (sym stands.1) (rules, stands.2)
 
-pub stands_whole : {b : Books} {y : YardState} → KeepsHistory b y → (r : RulesName) → y.rules ≡ Some r → IsWholeFile (content y.directory r.name)
-stands_whole {b} {y} k r is =
+pub stands_whole : {b : Books} {lists : Option (List (List Rule))} {y : YardState} → KeepsHistory b lists y → (r : RulesName) → y.rules ≡ Some r → IsWholeFile (content y.directory r.name)
+stands_whole {b} {lists} {y} k r is =
     let it = k.installed in
     let has = reached_whole (installs_of k.history) it.world r (reached_by it) (it.has_rules ∙ is) in
     subst (λ (x : Directory). IsWholeFile (content x r.name)) it.has_directory (whole_of has.now.text (content it.world.directory r.name) has.now.stands)
@@ -94,14 +95,30 @@ if_ok (Ok x) is then_so = then_so x is
 if_ok (Err fault) is then_so = tt
 
 -- nothing was noted
-pub kept_quiet : {b b' : Books} {y y' : YardState}
-    → b'.report ≡ b.report → b'.count ≡ b.count → b'.notes ≡ b.notes → b'.lists ≡ b.lists → y'.server ≡ y.server
-    → y'.directory ≡ y.directory → y'.rules ≡ y.rules → y'.installing ≡ y.installing → KeepsHistory b y → KeepsHistory b' y'
-kept_quiet {b} {b'} {y} {y'} t c o l w e r i k = record {
+pub kept_quiet : {b b' : Books} {lists lists' : Option (List (List Rule))} {y y' : YardState}
+    → b'.report ≡ b.report → b'.count ≡ b.count → b'.notes ≡ b.notes → lists' ≡ lists → y'.server ≡ y.server
+    → y'.directory ≡ y.directory → y'.rules ≡ y.rules → y'.installing ≡ y.installing → KeepsHistory b lists y → KeepsHistory b' lists' y'
+kept_quiet {b} {b'} {lists} {lists'} {y} {y'} t c o l w e r i k = record {
   history = k.history;
   is_history = history_same t c o w k.history k.is_history;
   installed = installed_same l e r (ap (λ (u : ServerState). u.phase) w) i refl k.installed;
 }
+
+pub is_some-map : {X Y : Type 0} (f : X → Y) (o : Option X) → is_some (option_map f o) ≡ is_some o
+is_some-map f None = refl
+is_some-map f (Some x) = refl
+
+-- events are stored, or they are not, as before
+noted_stored : (e : Event) (old new : Roll) → Notes e old new → is_some new.books.notes ≡ is_some old.books.notes
+noted_stored e old new noted = ap (λ (o : Option (List Noted)). is_some o) noted.stores ∙ is_some-map _ old.books.notes
+
+pub some_stored : (o : Option Event) (old new : Roll) → NotesSome o old new → is_some new.books.notes ≡ is_some old.books.notes
+some_stored None old new quiet = ap (λ (o : Option (List Noted)). is_some o) quiet.stores
+some_stored (Some e) old new noted = noted_stored e old new noted
+
+pub told_stored : (told : Option Event) (old new : Roll) → NotesTold told old new → is_some new.books.notes ≡ is_some old.books.notes
+told_stored None old new quiet = ap (λ (o : Option (List Noted)). is_some o) quiet.stores
+told_stored (Some e) old new noted = noted_stored e old new noted.1
 
 -- after a turn of a connection the phase is the same, and so is what the installations left
 pub phase_told : (told : Option Event) (old new : Roll) → NotesTold told old new → new.server.phase ≡ old.server.phase
@@ -109,13 +126,13 @@ phase_told None old new quiet = ap (λ (u : ServerState). u.phase) quiet.stays
 phase_told (Some e) old new noted = ap (λ (u : ServerState). u.phase) noted.1.happens ∙ phase_stays old.server e noted.0
 
 pub kept_told : (told : Option Event) (old new : Roll) → NotesTold told old new → old.server.limit < 2 ^ 64
-    → new.books.lists ≡ old.books.lists → (d : Directory) (rules : Option RulesName) (i : Option Installing)
-    → KeepsHistory old.books (record { directory = d; rules = rules; server = old.server; installing = i })
-    → KeepsHistory new.books (record { directory = d; rules = rules; server = new.server; installing = i })
+    → (lists : Option (List (List Rule))) (d : Directory) (rules : Option RulesName) (i : Option Installing)
+    → KeepsHistory old.books lists (record { directory = d; rules = rules; server = old.server; installing = i })
+    → KeepsHistory new.books lists (record { directory = d; rules = rules; server = new.server; installing = i })
 kept_told None old new quiet small lists d rules i k =
-    kept_quiet quiet.tells quiet.counts quiet.stores lists quiet.stays refl refl refl k
+    kept_quiet quiet.tells quiet.counts quiet.stores refl quiet.stays refl refl refl k
 kept_told (Some e) old new noted small lists d rules i k =
-    kept_on noted.0 lists refl refl refl (one_more_of e old new small noted.2 noted.1) k
+    kept_on noted.0 refl refl refl (one_more_of e old new small noted.2 noted.1) k
 
 -- and what a yard's call of its event tells is so
 pub makes_told : {L : Type 0} {p : _} (event : Event) (answer : Result Made OutOfTurn) (old new : Yard L p)
@@ -125,10 +142,6 @@ makes_told event (Ok made) old new own fits makes = (own, makes.made.noted, fits
 makes_told event (Err refusal) old new own fits makes =
     subst (λ (r : Roll). NotesTold None (yard_roll old) r) (sym (ap (λ y. yard_roll y) makes.out.1))
     (record { stays = refl; speaks = refl; tells = refl; counts = refl; stores = refl })
-
-pub is_some-map : {X Y : Type 0} (f : X → Y) (o : Option X) → is_some (option_map f o) ≡ is_some o
-is_some-map f None = refl
-is_some-map f (Some x) = refl
 
 pub same_some : {X : Type 0} (x y : X) → ◌≡◌ {A = Option X} (Some x) (Some y) → x ≡ y
 same_some x y e = cc

@@ -2,7 +2,7 @@
 use Rattle.std.proofs.Common.{◌≡◌, ◌≢◌, ℕ, ◌-◌, List, [], ◌∷◌, ◌++◌, length, take, Bool, true, false, Option, None, Some, refl, sym, ap, ◌∙◌, arith, length-append}
 use Rattle.std.specs.Prelude.{Err, option_map}
 use Rattle.dir_calls.specs.Directory.{Directory}
-use Rattle.server_events.specs.Journals.{next_report, one_more, without_last}
+use Rattle.server_events.specs.Journals.{next_report, one_more}
 use Rattle.server_events.specs.declared.journal.Noted.{Noted}
 use Rattle.rule_lookup.specs.Pairs.{Rule}
 use Rattle.rules_install.specs.Installing.{Installing, IsConsistent, next_of, next_phase}
@@ -15,7 +15,7 @@ use Rattle.server_events.specs.ServerState.{ServerState, after, may_come, may_ha
 use Rattle.server_events.specs.declared.event.Event.{Event}
 use Rattle.server_events.specs.declared.report.Report.{Report}
 use Rattle.server_yard.specs.Rolls.{IsQuiet, Notes, NotesSome, Roll}
-use Rattle.whole_yard.specs.Stepping.{MayFail, fault_event}
+use Rattle.whole_yard.specs.Stepping.{MayFail, fault_event, without_last}
 
 -- nothing was noted, and then an event
 pub quiet_then : (e : Event) (a b c : Roll) → IsQuiet a b → Notes e b c → Notes e a c
@@ -40,18 +40,6 @@ quiet_both a b c one two = record {
 pub quiet_then_some : (o : Option Event) (a b c : Roll) → IsQuiet a b → NotesSome o b c → NotesSome o a c
 quiet_then_some None a b c quiet noted = quiet_both a b c quiet noted
 quiet_then_some (Some e) a b c quiet noted = quiet_then e a b c quiet noted
-
--- and the other way round
-pub some_then_quiet : (o : Option Event) (a b c : Roll) → NotesSome o a b → IsQuiet b c → NotesSome o a c
-some_then_quiet None a b c noted quiet = quiet_both a b c noted quiet
-some_then_quiet (Some e) a b c noted quiet = record {
-  may = noted.may;
-  happens = quiet.stays ∙ noted.happens;
-  speaks = quiet.speaks ∙ noted.speaks;
-  tells = quiet.tells ∙ noted.tells;
-  counts = quiet.counts ∙ noted.counts;
-  stores = quiet.stores ∙ noted.stores;
-}
 
 -- the next phase may come
 may_next_at : (reached : Option Phase) (patched : Bool) (before : Option Phase) → (reached ≡ Some Fresh → patched ≡ false)

@@ -295,13 +295,13 @@ module _ (k : KeptYard) where
       let is = text_of names left in
       absent_or k.state.directory names k.rules.name is.text is.stands
 
-  texts_are : (lists : List (List Rule)) → k.books.lists ≡ Some lists
+  texts_are : (lists : List (List Rule)) → k.lists ≡ Some lists
       → k.kept.installed.world.accepted ≡ k.kept.installed.first.accepted ++ map (λ (r : List Rule). Some r) lists
   texts_are lists is =
       let it = k.kept.installed in
       subst (λ (o : Option (List (List Rule))). IfSome o (λ all. it.world.accepted ≡ it.first.accepted ++ map Some all)) is it.accepted
 
-  pub since_done : (lists : List (List Rule)) → k.books.lists ≡ Some lists → NamesStoredSinceDone k.kept.history lists k.state.directory k.rules.name
+  pub since_done : (lists : List (List Rule)) → k.lists ≡ Some lists → NamesStoredSinceDone k.kept.history lists k.state.directory k.rules.name
   since_done lists is before later split names left =
       let it = k.kept.installed in
       let at = done_number (installs_of k.kept.history) it.world (reached_by it) (installs_of before) (installs_of later) (ap installs_of split ∙ installs-done before later) in
@@ -313,7 +313,7 @@ module _ (k : KeptYard) where
       let found = subst (λ (a : Accepted). slice_get a text.position ≡ Some text.text) (texts_are lists is) text.accepted_as in
       stored_at it.first.accepted lists (begun_in before) k.state.directory names k.rules.name text.position text.text (omega (arith, some, same)) (omega (arith, acknowledged, recent, same)) found text.stands
 
-  pub one_each : (lists : List (List Rule)) → k.books.lists ≡ Some lists → length lists ≡ begun_in k.kept.history
+  pub one_each : (lists : List (List Rule)) → k.lists ≡ Some lists → length lists ≡ begun_in k.kept.history
   one_each lists is =
       let it = k.kept.installed in
       let counted = counted_reached (installs_of k.kept.history) it.world (reached_by it) in
@@ -323,17 +323,18 @@ module _ (k : KeptYard) where
       let lengths = length-texts lists in
       omega (arith, texts, same, all, lengths)
 
-  pub readers_find : ReadersFind k.books k.state k.rules
-  readers_find = record { history = k.kept.history; is_history = k.kept.is_history; always = always_whole; since_done = by k.books.lists refl }
+  pub readers_find : ReadersFind k.books k.lists k.state k.rules
+  readers_find = record { history = k.kept.history; is_history = k.kept.is_history; always = always_whole; since_done = by k.lists refl }
     where
-      by : (o : Option (List (List Rule))) → k.books.lists ≡ o
+      by : (o : Option (List (List Rule))) → k.lists ≡ o
           → IfSome o (λ all. NamesStoredSinceDone k.kept.history all k.state.directory k.rules.name)
       by None is = tt
       by (Some lists) is = since_done lists is
 
 -- the same of a yard whose assumptions were met, with or without a rules name
-pub find_whole : (books : Books) (y : YardState) → ∥ KeepsHistory books y ∥₁ → IfSome y.rules (λ r. ∥ ReadersFind books y r ∥₁)
-find_whole books y kept = by y.rules refl where
-  by : (o : Option RulesName) → y.rules ≡ o → IfSome o (λ r. ∥ ReadersFind books y r ∥₁)
+pub find_whole : (books : Books) (lists : Option (List (List Rule))) (y : YardState) → ∥ KeepsHistory books lists y ∥₁
+    → IfSome y.rules (λ r. ∥ ReadersFind books lists y r ∥₁)
+find_whole books lists y kept = by y.rules refl where
+  by : (o : Option RulesName) → y.rules ≡ o → IfSome o (λ r. ∥ ReadersFind books lists y r ∥₁)
   by None is = tt
-  by (Some r) is = ∥∥₁_map kept (λ k. readers_find (record { books = books; state = y; rules = r; follows = is; kept = k }))
+  by (Some r) is = ∥∥₁_map kept (λ k. readers_find (record { books = books; lists = lists; state = y; rules = r; follows = is; kept = k }))

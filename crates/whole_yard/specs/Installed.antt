@@ -28,11 +28,11 @@ pub record IsInstalledBy (lists : Option (List (List Rule))) (y : YardState) (hi
   pub has_installing : HasUnderWay world y.installing
   pub accepted : IfSome lists (λ all. world.accepted ≡ first.accepted ++ map Some all)
 
--- a history of a yard, and what its installations left
-pub record KeepsHistory (books : Books) (y : YardState) : Type 0 where
+-- a history of a yard, and what its installations left, whose lists of rules are these if they are stored
+pub record KeepsHistory (books : Books) (lists : Option (List (List Rule))) (y : YardState) : Type 0 where
   pub history : List Event
   pub is_history : IsHistory books y.server history
-  pub installed : IsInstalledBy books.lists y history
+  pub installed : IsInstalledBy lists y history
 
 -- an opened file that is compiled of rules, or that there was none
 abbrev pub IsWholeFile : Option (List ℕ) → Type 0

@@ -1,8 +1,11 @@
 -- The installation that a yard keeps.
 use Rattle.std.specs.Prelude.{◌≡◌, ◌≢◌, ℕ, Bool, IsTrue, List, Option, None, Some, true, false, option_map}
+use Rattle.std.specs.declared.alloc.Global.{Global}
+use Rattle.std.specs.declared.vec.Vec.{Vec}
 use Rattle.std.proofs.Props.{props}
 use Rattle.dir_calls.specs.Directory.{Directory}
 use Rattle.server_events.specs.ServerState.{ServerState}
+use Rattle.rule_lookup.specs.Pairs.{Rule}
 use Rattle.rule_lookup.specs.declared.decision.WhenMissing.{WhenMissing}
 use Rattle.rules_install.specs.Installing.{Fits, FitsPhase, Installing}
 use Rattle.rules_install.specs.Installs.{installing}
@@ -16,6 +19,10 @@ use Rattle.whole_yard.specs.declared.yard.Installation.TheVariants.{Idle, UnderW
 -- the rules name, and what is decided if no file stands there
 abbrev pub rules_of : Option (List ℕ × WhenMissing) → Option RulesName
 rules_of rules = option_map (λ r. record { name = r.0; missing = r.1 }) rules
+
+-- the rules of the installations that made their first step, in order; if they are stored
+abbrev pub lists_of : Option (Vec (List Rule) Global) → Option (List (List Rule))
+lists_of lists = option_map (λ (all : Vec (List Rule) Global). all.items) lists
 
 -- the installation that is under way
 abbrev pub installing_of : Installation → Option Installing

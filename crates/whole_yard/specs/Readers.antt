@@ -1,5 +1,5 @@
 -- What a reader finds under the rules name of a yard, whatever a stop leaves there.
-use Rattle.std.specs.Prelude.{◌≡◌, ◌≤◌, ◌+◌, ◌⊎◌, ℕ, Bool, true, false, List, ◌∷◌, ◌++◌, None, Some, IfSome, slice_get}
+use Rattle.std.specs.Prelude.{◌≡◌, ◌≤◌, ◌+◌, ◌⊎◌, ℕ, Bool, true, false, List, ◌∷◌, ◌++◌, Option, None, Some, IfSome, slice_get}
 use Rattle.std.specs.List.{count_by}
 use Rattle.std.specs.FinMap.{get}
 use Rattle.dir_calls.specs.Directory.{Directory}
@@ -58,14 +58,15 @@ NamesStoredSinceDone history lists d name =
 -- a yard that follows rules, as its type keeps it
 pub record KeptYard : Type 0 where
   pub books : Books
+  pub lists : Option (List (List Rule))
   pub state : YardState
   pub rules : RulesName
   pub follows : state.rules ≡ Some rules
-  pub kept : KeepsHistory books state
+  pub kept : KeepsHistory books lists state
 
 -- what readers find in a yard, told from its history
-pub record ReadersFind (books : Books) (y : YardState) (rules : RulesName) : Type 0 where
+pub record ReadersFind (books : Books) (lists : Option (List (List Rule))) (y : YardState) (rules : RulesName) : Type 0 where
   pub history : List Event
   pub is_history : IsHistory books y.server history
   pub always : IsAbsentOrCompiled y.directory rules.name
-  pub since_done : IfSome books.lists (λ all. NamesStoredSinceDone history all y.directory rules.name)
+  pub since_done : IfSome lists (λ all. NamesStoredSinceDone history all y.directory rules.name)

@@ -1,5 +1,5 @@
 -- The events that steps of installations are.
-use Rattle.std.specs.Prelude.{◌≡◌, ◌++◌, ◌∷◌, ⊤, ℕ, Bool, true, false, List, [], Option, None, Some, Result, Ok, Err, option_map}
+use Rattle.std.specs.Prelude.{◌≡◌, ◌-◌, ◌++◌, ◌∷◌, ⊤, ℕ, Bool, true, false, List, [], length, take, Option, None, Some, Result, Ok, Err, option_map}
 use Rattle.rule_lookup.specs.Pairs.{Rule}
 use Rattle.rules_install.specs.Installing.{Installing, next_phase}
 use Rattle.rules_install.specs.Steps.{Goes}
@@ -74,6 +74,10 @@ kept_after_begin (Err refused) kept = kept_after_fault refused.1 kept
 abbrev pub last_begun_after : {I : Type 0} → BeginAnswer I → ℕ → ℕ
 last_begun_after (Ok number) last = number
 last_begun_after (Err refused) last = last
+
+-- a list but for its last
+abbrev pub without_last : {X : Type 0} → List X → List X
+without_last xs = take (length xs - 1) xs
 
 -- the lists of rules that are stored: one more if an installation made its first step
 abbrev pub lists_after_begin : {I : Type 0} → BeginAnswer I → List Rule → Option (List (List Rule)) → Option (List (List Rule))

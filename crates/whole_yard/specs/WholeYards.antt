@@ -1,20 +1,23 @@
 -- What contracts say of a whole yard.
-use Rattle.std.specs.Prelude.{◌≡◌, ◌<◌, ◌-◌, ◌^◌, ◌==◌, ◌⊎◌, ℕ, List, Option, None, Some, false, option_map, if◌then◌else◌}
+use Rattle.std.specs.Prelude.{◌≡◌, ◌<◌, ◌-◌, ◌^◌, ◌==◌, ◌⊎◌, ℕ, List, [], Option, None, Some, false, option_map, if◌then◌else◌}
 use Rattle.dir_calls.specs.Directory.{Directory}
 use Rattle.dir_calls.specs.Images.{IsImage}
 use Rattle.dir_calls.specs.declared.dir.Dir as dir
 use Rattle.dir_calls.specs.declared.rules_file.RulesFile as file
+use Rattle.rule_lookup.specs.Pairs.{Rule}
 use Rattle.rules_install.specs.Installing.{Installing}
+use Rattle.server_events.specs.JournalParts.{books_of_journal}
 use Rattle.server_events.specs.Journals.{Books}
 use Rattle.server_events.specs.ServerState.{ServerState, start}
 use Rattle.headline.specs.Steps.{MayLeave}
 use Rattle.headline.specs.Worlds.{KeptFile, RulesName, World}
 use Rattle.server_events.specs.declared.journal.Journal.{Journal}
+use Rattle.server_events.specs.declared.journal.Noted.{Noted}
 use Rattle.server_yard.specs.Rolls.{Roll}
 use Rattle.server_yard.specs.Yards.{yard_books, yard_journal, yard_roll, yard_seat, yard_server}
 use Rattle.server_yard.specs.declared.places.Places as places
 use Rattle.server_yard.specs.declared.yard.Yard.{Yard}
-use Rattle.whole_yard.specs.Kept.{installing_of, is_kept, rules_of, state_of}
+use Rattle.whole_yard.specs.Kept.{installing_of, is_kept, lists_of, rules_of, state_of}
 use Rattle.whole_yard.specs.Standing.{Matches, YardState}
 use Rattle.whole_yard.specs.declared.assumptions.Assumptions as assumptions
 use Rattle.whole_yard.specs.declared.yard.WholeYard.{WholeYard}
@@ -43,6 +46,10 @@ module _ {L D F : Type 0} {p : assumptions.Ghosts L} {l : places.Ghosts L} {d : 
 
   abbrev pub whole_server : WholeYard L D F p l d f → ServerState
   whole_server y = yard_server y.yard
+
+  -- the rules of the installations that made their first step, in order; if its journal stores events
+  abbrev pub whole_lists : WholeYard L D F p l d f → Option (List (List Rule))
+  whole_lists y = lists_of y.lists
 
   -- the serial that the place of an index was last given to
   abbrev pub whole_seat : WholeYard L D F p l d f → ℕ → Option ℕ
@@ -80,7 +87,7 @@ module _ {L D F : Type 0} {p : assumptions.Ghosts L} {l : places.Ghosts L} {d : 
     pub installing : whole_installing new ≡ whole_installing old
     pub kept : kept_number new ≡ kept_number old
     pub begun : last_begun new ≡ last_begun old
-    pub lists_same : (whole_roll new).books.lists ≡ (whole_roll old).books.lists
+    pub lists_same : whole_lists new ≡ whole_lists old
 
   -- an installation may begin: none of its steps was made, it is for the rules name, and a number is left
   pub record MayBegin (y : WholeYard L D F p l d f) (s : Installing) : Type 0 where
@@ -100,6 +107,7 @@ module _ {L D F : Type 0} {p : assumptions.Ghosts L} {l : places.Ghosts L} {d : 
     pub idle : whole_installing y ≡ None
     pub none_kept : kept_number y ≡ None
     pub none_begun : last_begun y ≡ 0
+    pub no_rules : whole_lists y ≡ option_map (λ (notes : List Noted). []) (books_of_journal journal).notes
 
   -- a yard is as before, but for what its events change and its directory
   pub record IsSameButDirectory (old new : WholeYard L D F p l d f) : Type 0 where
@@ -107,7 +115,7 @@ module _ {L D F : Type 0} {p : assumptions.Ghosts L} {l : places.Ghosts L} {d : 
     pub installing : whole_installing new ≡ whole_installing old
     pub kept : kept_number new ≡ kept_number old
     pub begun : last_begun new ≡ last_begun old
-    pub lists_same : (whole_roll new).books.lists ≡ (whole_roll old).books.lists
+    pub lists_same : whole_lists new ≡ whole_lists old
 
   -- the installation that is under way with this number
   abbrev pub kept_under : WholeYard L D F p l d f → ℕ → Option Installing

@@ -6,7 +6,7 @@ ghost use Rattle.server_events.specs.declared.event.Event.TheVariants as event;
 ghost use Rattle.server_yard.specs.Passes.{IsDecidedBy, pass_serial};
 ghost use Rattle.server_yard.specs.Rooms.{KeepsRoom};
 ghost use Rattle.server_yard.specs.Seating.{leaver};
-ghost use Rattle.server_yard.specs.Yards.{IsSameBeside, yard_roll};
+ghost use Rattle.server_yard.specs.Yards.{yard_roll};
 ghost use Rattle.whole_yard.specs.ConnectionTurns.{AdmitsOrNot, Answers, MakesOrNot, NotesTold, told_if_admitted, told_if_made};
 
 use child_jobs::{Job, Place, Running};
@@ -35,8 +35,7 @@ pub trait ConnectionTurn<L: Places> {
         requires may { may self }
         ensures answers { Answers (answers self) result yard.old yard.new }
         ensures notes { NotesTold (tells self result) (yard_roll yard.old) (yard_roll yard.new) }
-        ensures room { KeepsRoom (yard_roll yard.old) (yard_roll yard.new) }
-        ensures same { IsSameBeside yard.old yard.new };
+        ensures room { KeepsRoom (yard_roll yard.old) (yard_roll yard.new) };
 }
 
 /// Lets a connection in, as `Yard::admit` does.

@@ -10,7 +10,7 @@ ghost use Rattle.server_yard.specs.Rolls.{NotesSome};
 ghost use Rattle.server_yard.specs.Seating.{KeepsSeats};
 ghost use Rattle.whole_yard.specs.Standing.{LeadsSome};
 ghost use Rattle.whole_yard.specs.Stepping.{GoesAsStep, IsRefusedAs, begin_event, event_of_step, fault_event, kept_after_begin, kept_after_step, last_begun_after, lists_after_begin, step_event};
-ghost use Rattle.whole_yard.specs.WholeYards.{LeavesNothingElse, MayBegin, kept_number, kept_under, last_begun, whole_books, whole_directory, whole_installing, whole_roll, whole_rules, whole_seat, whole_state};
+ghost use Rattle.whole_yard.specs.WholeYards.{LeavesNothingElse, MayBegin, kept_number, kept_under, last_begun, whole_books, whole_directory, whole_installing, whole_lists, whole_roll, whole_rules, whole_seat, whole_state};
 ghost use Rattle.whole_yard.specs.Callers.{CountsAtMostOne, spoken_by};
 ghost use Rattle.whole_yard.specs.Receipts.{receipt_after, receipt_at, receipt_of};
 ghost use Rattle.whole_yard.specs.YardTurns.{BeginsOrNot, StepsOrNot};
@@ -60,8 +60,8 @@ impl<L: Assumptions, D: Dir + Drop> WholeTurn<L, D> for InstallBegin {
         ensures step { IsTrue D.honest → LeadsSome
             (begin_event result.0) (whole_state yard.old) (whole_state yard.new) }
         ensures stops { IsTrue D.honest → LeavesNothingElse yard.old yard.new }
-        ensures lists { (whole_books yard.new).lists
-            ≡ lists_after_begin result.0 (installing self.install).rules (whole_books yard.old).lists }
+        ensures lists { whole_lists yard.new
+            ≡ lists_after_begin result.0 (installing self.install).rules (whole_lists yard.old) }
         ensures device { IsTrue D.honest → IfErr result.0 (λ r. IsOfDevice (Err r.1)) }
         ensures blames { IfErr result.0 (λ r.
             BlamesFault (D.failed (whole_directory yard.old)) (D.failed (whole_directory yard.new)) r.1) }
@@ -116,7 +116,7 @@ impl<L: Assumptions, D: Dir + Drop> WholeTurn<L, D> for InstallStep {
         ensures kept { kept_number yard.new ≡ kept_after_step result.0 (kept_number yard.old) }
         ensures begun { last_begun yard.new ≡ last_begun yard.old }
         ensures rules { whole_rules yard.new ≡ whole_rules yard.old }
-        ensures lists { (whole_books yard.new).lists ≡ (whole_books yard.old).lists }
+        ensures lists { whole_lists yard.new ≡ whole_lists yard.old }
         ensures device { IsTrue D.honest → IsOfDevice result.0 }
         ensures blames { BlamesDevice
             (D.failed (whole_directory yard.old)) (D.failed (whole_directory yard.new)) result.0 }

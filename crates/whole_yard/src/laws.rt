@@ -87,13 +87,13 @@ pub fn told_later()
 /// A reader finds no file or a whole one, in each yard whose assumptions were met when it was made.
 ///
 /// Whatever a stop leaves, the rules name is absent, or stands for a synced file that is compiled of rules. If the
-/// journal stores the list of each installation, there is one list for each. Once an installation answered `Done`, the
+/// yard stores the list of each installation, there is one list for each. Once an installation answered `Done`, the
 /// file is compiled of its list or of a later one.
 pub fn readers()
     ensures always { (k : KeptYard) → IsAbsentOrCompiled k.state.directory k.rules.name }
-    ensures since_done { (k : KeptYard) (lists : List (List Rule)) → k.books.lists ≡ Some lists
+    ensures since_done { (k : KeptYard) (lists : List (List Rule)) → k.lists ≡ Some lists
         → NamesStoredSinceDone k.kept.history lists k.state.directory k.rules.name }
-    ensures one_each { (k : KeptYard) (lists : List (List Rule)) → k.books.lists ≡ Some lists
+    ensures one_each { (k : KeptYard) (lists : List (List Rule)) → k.lists ≡ Some lists
         → length lists ≡ begun_in k.kept.history }
 {}
 

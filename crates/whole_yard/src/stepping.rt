@@ -6,16 +6,18 @@ ghost use Rattle.rules_install.specs.Installing.{Fits};
 ghost use Rattle.rules_install.specs.Installs.{installing, IsOpen, IsUndone, StepGoes};
 ghost use Rattle.rules_install.specs.Steps.{BlamesDevice, IsOfDevice, IsSame};
 ghost use Rattle.server_yard.specs.Rolls.{NotesSome};
-ghost use Rattle.server_yard.specs.Yards.{yard_books, yard_roll, yard_seat, yard_server};
+ghost use Rattle.server_yard.specs.Yards.{yard_roll, yard_seat, yard_server};
 ghost use Rattle.server_yard.specs.Seating.{HasSpareRoom, KeepsSeats};
-ghost use Rattle.whole_yard.specs.Stepping.{MayFail, fault_event, step_event};
+ghost use Rattle.whole_yard.specs.Kept.{lists_of};
+ghost use Rattle.whole_yard.specs.Stepping.{MayFail, fault_event, step_event, without_last};
 
 use crate::step::make_step;
 use dir_calls::{Dir, Phase};
+use rule_lines::RuleList;
 use rules_install::{Install, InstallFault};
 use server_events::Event;
 use server_yard::{Places, Yard};
-use std::alloc::Global;
+use std::alloc::{AllocError, Global};
 
 /// Makes the next step of an installation, and notes it. The installation has not begun, or it is in the phase that the
 /// yard has.
@@ -32,7 +34,6 @@ pub(crate) fn step_noted<L: Places, D: Dir>(
         → (yard_server yard.old).phase ≡ (installing install.old).reached }
     requires fits { IsTrue D.honest → Fits (installing install.old) (D.state dir.old) }
     ensures noted { NotesSome (step_event result) (yard_roll yard.old) (yard_roll yard.new) }
-    ensures lists { (yard_books yard.new).lists ≡ (yard_books yard.old).lists }
     ensures seats { KeepsSeats (yard_seat yard.old) (yard_seat yard.new) }
     ensures room { HasSameRoom (yard_roll yard.old).room (yard_roll yard.new).room }
     ensures goes { StepGoes install.old install.new result }
@@ -67,7 +68,6 @@ fn note_fault<L: Places>(yard: &mut Yard<L>, fault: InstallFault)
     requires room { HasSpareRoom (yard_roll yard.old) }
     ensures noted { NotesSome (fault_event fault) (yard_roll yard.old) (yard_roll yard.new) }
     ensures one_less { HasOneMore (yard_roll yard.new).room (yard_roll yard.old).room }
-    ensures lists { (yard_books yard.new).lists ≡ (yard_books yard.old).lists }
     ensures seats { KeepsSeats (yard_seat yard.old) (yard_seat yard.new) }
 {
     match fault {
@@ -76,10 +76,11 @@ fn note_fault<L: Places>(yard: &mut Yard<L>, fault: InstallFault)
     }
 }
 
-/// Makes the first step of an installation, and notes it. Its rules are kept if it was made.
+/// Makes the first step of an installation, and notes it. If it was made, its rules are stored too, where any are.
 pub(crate) fn begin_noted<L: Places, D: Dir>(
     alloc: Global,
     yard: &mut Yard<L>,
+    lists: &mut Option<Vec<RuleList>>,
     dir: &mut D,
     install: &mut Install,
 ) -> Result<Phase, InstallFault>
@@ -87,9 +88,9 @@ pub(crate) fn begin_noted<L: Places, D: Dir>(
     requires is_open { IsOpen install.old }
     requires unbegun { (installing install.old).reached ≡ None }
     ensures noted { NotesSome (step_event result) (yard_roll yard.old) (yard_roll yard.new) }
-    ensures kept { OnOk result ((yard_books yard.new).lists
-        ≡ option_map (λ all. all ++ (installing install.old).rules ∷ []) (yard_books yard.old).lists) }
-    ensures err { OnErr result ((yard_books yard.new).lists ≡ (yard_books yard.old).lists) }
+    ensures kept { OnOk result (lists_of lists.new
+        ≡ option_map (λ all. all ++ (installing install.old).rules ∷ []) (lists_of lists.old)) }
+    ensures err { OnErr result (lists_of lists.new ≡ lists_of lists.old) }
     ensures seats { KeepsSeats (yard_seat yard.old) (yard_seat yard.new) }
     ensures room { HasSameRoom (yard_roll yard.old).room (yard_roll yard.new).room }
     ensures goes { StepGoes install.old install.new result }
@@ -103,12 +104,36 @@ pub(crate) fn begin_noted<L: Places, D: Dir>(
     ensures device { IsTrue D.honest → IsOfDevice result }
     ensures blames { BlamesDevice (D.failed dir.old) (D.failed dir.new) result }
 {
-    yard.keep_list(install.list())?;
+    keep_list(lists, install.list())?;
     match step_noted(alloc, yard, dir, install) {
         Ok(phase) => Ok(phase),
         Err(fault) => {
-            yard.forget_list();
+            forget_list(lists);
             Err(fault)
         }
+    }
+}
+
+// Stores the rules of an installation that begins, where any are stored.
+//
+// # Errors
+// There was no memory. All is as before.
+fn keep_list(lists: &mut Option<Vec<RuleList>>, list: &RuleList) -> Result<(), AllocError>
+    ensures kept { OnOk result (lists_of lists.new
+        ≡ option_map (λ all. all ++ list.now ∷ []) (lists_of lists.old)) }
+    ensures err { OnErr result (lists_of lists.new ≡ lists_of lists.old) }
+{
+    if let Some(all) = lists {
+        all.push(list.copy()?)?;
+    }
+    Ok(())
+}
+
+// Takes the last rules back, if the first step of their installation was not made. It takes no memory.
+fn forget_list(lists: &mut Option<Vec<RuleList>>)
+    ensures { lists_of lists.new ≡ option_map without_last (lists_of lists.old) }
+{
+    if let Some(all) = lists {
+        all.pop();
     }
 }

@@ -22,7 +22,7 @@ ghost use Rattle.server_yard.specs.Yards.{yard_books, yard_server};
 ghost use Rattle.whole_yard.specs.Callers.{spoken_by};
 ghost use Rattle.whole_yard.specs.ConnectionTurns.{NotesTold};
 ghost use Rattle.whole_yard.specs.Installed.{IsWholeFile, KeepsHistory};
-ghost use Rattle.whole_yard.specs.Kept.{FindsItsFile, FindsItsFile-prop, IsKeptInstallation, installing_of, is_kept, phase_of, rules_of, state_of};
+ghost use Rattle.whole_yard.specs.Kept.{FindsItsFile, FindsItsFile-prop, IsKeptInstallation, installing_of, is_kept, lists_of, phase_of, rules_of, state_of};
 ghost use Rattle.whole_yard.specs.Readers.{ReadersFind};
 ghost use Rattle.whole_yard.specs.Standing.{BeginsWell, LeadsOpened, LeadsSome, standing_of};
 ghost use Rattle.whole_yard.specs.Stepping.{GoesAsStep, HandsBack, IsRefusedAs, begin_event, event_of_step, is_kept_after, is_of_disk, kept_after_begin, kept_after_step, kept_then, last_begun_after, lists_after_begin};
@@ -32,6 +32,7 @@ use crate::connection_turns::ConnectionTurn;
 use crate::stepping::{begin_noted, step_noted};
 use child_jobs::TableFault;
 use dir_calls::{Dir, DirFault, Name, Phase};
+use rule_lines::RuleList;
 use rule_lookup::WhenMissing;
 use rules_install::{Install, InstallFault};
 use server_events::Journal;
@@ -59,6 +60,8 @@ pub struct WholeYard<L: Assumptions, D: Dir + Drop> {
     installation: Installation,
     // the number of the last installation that made its first step
     begun: u64,
+    // the rules of each that made it, in order; none if its journal only counts events
+    lists: Option<Vec<RuleList>>,
     // if the assumptions are met, the directory is honest
     ghost honest: { IsTrue L.met → IsTrue D.honest },
     pub ghost installs: { L.installs ≡ true },
@@ -67,14 +70,16 @@ pub struct WholeYard<L: Assumptions, D: Dir + Drop> {
     pub ghost phase: { phase_of (installing_of installation) ≡ (yard_server yard).phase },
     ghost going: { IsKeptInstallation (installing_of installation) (rules_of rules) },
     ghost finds: { FindsItsFile D.honest (installing_of installation) (D.state dir) } by { FindsItsFile-prop D.honest (installing_of installation) (D.state dir) },
+    // there are lists of rules if the journal stores events
+    pub ghost listed: { is_some (lists_of lists) ≡ is_some (yard_books yard).notes },
     // if the assumptions are met, the installations of its history alone are a history of the headline, which left its
     // directory
-    pub ghost installed: { IsTrue L.met
-        → ∥ KeepsHistory (yard_books yard) (state_of (yard_server yard) (D.state dir) rules installation) ∥₁ },
+    pub ghost installed: { IsTrue L.met → ∥ KeepsHistory (yard_books yard) (lists_of lists)
+        (state_of (yard_server yard) (D.state dir) rules installation) ∥₁ },
 }
 
 impl<L: Assumptions, D: Dir + Drop> WholeYard<L, D> {
-    ghost use Rattle.whole_yard.specs.WholeYards.{IsMadeWhole, IsSameBesides, IsSameButDirectory, LeavesNothingElse, MayBegin, kept_number, kept_under, last_begun, name_of, whole_books, whole_connections, whole_directory, whole_installing, whole_roll, whole_rules, whole_seat, whole_server, whole_state};
+    ghost use Rattle.whole_yard.specs.WholeYards.{IsMadeWhole, IsSameBesides, IsSameButDirectory, LeavesNothingElse, MayBegin, kept_number, kept_under, last_begun, name_of, whole_books, whole_connections, whole_directory, whole_installing, whole_lists, whole_roll, whole_rules, whole_seat, whole_server, whole_state};
 
     /// A yard over a directory, without connections and without an installation under way.
     ///
@@ -102,12 +107,14 @@ impl<L: Assumptions, D: Dir + Drop> WholeYard<L, D> {
         ensures made { IfOk result (IsMadeWhole dir (rules_of rules) limit per_address journal) }
         ensures refused { IfErr result (RefusesLimits limit) }
     {
+        let lists = no_lists(alloc, &journal);
         Ok(WholeYard {
             yard: Yard::new(alloc, blank, limit, per_address, journal)?,
             dir,
             rules,
             installation: Installation::Idle,
             begun: 0,
+            lists,
         })
     }
 
@@ -122,7 +129,7 @@ impl<L: Assumptions, D: Dir + Drop> WholeYard<L, D> {
     /// made.
     pub fn consistent(&self)
         ensures { IsTrue L.met → IfSome (whole_rules self.now) (λ rules.
-            ∥ ReadersFind (whole_books self.now) (whole_state self.now) rules ∥₁) }
+            ∥ ReadersFind (whole_books self.now) (whole_lists self.now) (whole_state self.now) rules ∥₁) }
     {}
 
     /// Says who makes the events that follow: a number from 1, or 0 for nobody, as at first. Nothing else changes.
@@ -279,8 +286,8 @@ impl<L: Assumptions, D: Dir + Drop> WholeYard<L, D> {
         // a stop at any moment since left what the headline's world may leave, or an image of the directory as it is
         // then
         ensures stops { IsTrue D.honest → LeavesNothingElse self.old self.new }
-        ensures lists { (whole_books self.new).lists
-            ≡ lists_after_begin result (installing install).rules (whole_books self.old).lists }
+        ensures lists { whole_lists self.new
+            ≡ lists_after_begin result (installing install).rules (whole_lists self.old) }
         ensures back { IfErr result (λ r. HandsBack (installing install) (installing r.0) r.1) }
         // the device is blamed only if it failed, and that was counted
         ensures device { IsTrue D.honest → IfErr result (λ r. IsOfDevice (Err r.1)) }
@@ -294,7 +301,13 @@ impl<L: Assumptions, D: Dir + Drop> WholeYard<L, D> {
             return Err((install, InstallFault::Over));
         };
         let mut install = install;
-        match begin_noted(alloc, &mut self.yard, &mut self.dir, &mut install) {
+        match begin_noted(
+            alloc,
+            &mut self.yard,
+            &mut self.lists,
+            &mut self.dir,
+            &mut install,
+        ) {
             Ok(_) => {
                 self.installation.becomes(Installation::UnderWay(install));
                 self.begun = number;
@@ -329,7 +342,7 @@ impl<L: Assumptions, D: Dir + Drop> WholeYard<L, D> {
         ensures kept { kept_number self.new ≡ kept_after_step result (kept_number self.old) }
         ensures begun { last_begun self.new ≡ last_begun self.old }
         ensures rules { whole_rules self.new ≡ whole_rules self.old }
-        ensures lists { (whole_books self.new).lists ≡ (whole_books self.old).lists }
+        ensures lists { whole_lists self.new ≡ whole_lists self.old }
         // the device is blamed only if it failed, and that was counted; if none is under way the directory is not
         // called
         ensures device { IsTrue D.honest → IsOfDevice result }
@@ -395,6 +408,13 @@ fn ended_by(answer: Result<Phase, InstallFault>) -> Option<Installation>
         Err(InstallFault::Disk(..)) => Some(Installation::Idle),
         _ => None,
     }
+}
+
+// What a yard stores of the rules of its installations before the first, if its journal stores events.
+fn no_lists(alloc: Global, journal: &Journal) -> Option<Vec<RuleList>>
+    ensures { lists_of result ≡ option_map (λ _. []) (books_of_journal journal.now).notes }
+{
+    journal.notes().map(|_| Vec::new(alloc))
 }
 
 fn is_same_name(one: &Name, other: &Name) -> bool

@@ -1,42 +1,39 @@
-use Rattle.std.proofs.Common.{◌++◌, ◌∷◌, [], Option, Some, inr, refl, sym, ap, subst, ◌∙◌}
+use Rattle.std.proofs.Common.{◌++◌, ◌∷◌, [], Option, inr, refl, sym, ap, subst, ◌∙◌}
 use Rattle.std.proofs.lemmas.Option.{none-some}
 use Rattle.std.proofs.lemmas.Result.{err_from_is_err_and}
 use Rattle.std.specs.Prelude.{option_map}
-use Rattle.server_events.specs.Journals.{without_last}
 use Rattle.rules_install.specs.Installing.{FitsPhase}
 use Rattle.rules_install.specs.Installs.{installing}
 use Rattle.dir_calls.specs.declared.phase.Phase.{Phase}
 use Rattle.dir_calls.specs.declared.phase.Phase.TheVariants.{Done}
 use Rattle.server_events.specs.declared.event.Event.TheVariants as event
-use Rattle.server_yard.specs.Yards.{yard_roll}
-use Rattle.whole_yard.specs.Stepping.{fault_event}
-use Rattle.whole_yard.proofs.Noting.{forgotten, quiet_then_some, some_then_quiet}
+use Rattle.whole_yard.specs.Kept.{lists_of}
+use Rattle.whole_yard.specs.Stepping.{without_last}
+use Rattle.whole_yard.proofs.Noting.{forgotten}
 use Rattle.whole_yard.proofs.stepping.begin_noted.Goals as goal
 
 pub returns-in_err-keep_list-clause-stops : goal.returns-in_err-keep_list-clause-stops
 returns-in_err-keep_list-clause-stops g c = λ honest w image at left. inr (g.met.D.Dir.only_now c.args.dir.now image honest left)
 
 pub returns-in-Ok-clause-noted : goal.returns-in-Ok-clause-noted
-returns-in-Ok-clause-noted g c =
-    quiet_then_some (Some (event.Stepped c.in-Ok.phase)) (yard_roll c.args.yard.now) (yard_roll c.keep_list.new.self) (yard_roll c.step_noted.new.yard) c.in_ok-keep_list.ensures.quiet c.in-Ok.ensures.noted
+returns-in-Ok-clause-noted g c = c.in-Ok.ensures.noted
 
 pub returns-in-Ok-clause-kept : goal.returns-in-Ok-clause-kept
 returns-in-Ok-clause-kept g c =
-    c.in-Ok.ensures.lists ∙ c.in_ok-keep_list.ensures.kept ∙ ap (λ rules. option_map (λ all. all ++ rules ∷ []) (yard_roll c.args.yard.now).books.lists) c.list.ensures
+    c.in_ok-keep_list.ensures.kept ∙ ap (λ rules. option_map (λ all. all ++ rules ∷ []) (lists_of c.args.lists.now)) c.list.ensures
 
 pub returns-in-Ok-clause-seats : goal.returns-in-Ok-clause-seats
-returns-in-Ok-clause-seats g c = λ i. c.in-Ok.ensures.seats i ∙ c.in_ok-keep_list.ensures.seats i
+returns-in-Ok-clause-seats g c = c.in-Ok.ensures.seats
 
 pub returns-in-Err-clause-noted : goal.returns-in-Err-clause-noted
-returns-in-Err-clause-noted g c =
-    some_then_quiet (fault_event c.in-Err.fault) (yard_roll c.args.yard.now) (yard_roll c.step_noted.new.yard) (yard_roll c.forget_list.new.self) (quiet_then_some (fault_event c.in-Err.fault) (yard_roll c.args.yard.now) (yard_roll c.keep_list.new.self) (yard_roll c.step_noted.new.yard) c.in_ok-keep_list.ensures.quiet c.in-Err.ensures.noted) c.forget_list.ensures.quiet
+returns-in-Err-clause-noted g c = c.in-Err.ensures.noted
 
 pub returns-in-Err-clause-err : goal.returns-in-Err-clause-err
 returns-in-Err-clause-err g c =
-    c.forget_list.ensures.forgotten ∙ ap (λ o. option_map without_last o) (c.in-Err.ensures.lists ∙ c.in_ok-keep_list.ensures.kept) ∙ forgotten (yard_roll c.args.yard.now).books.lists c.list.result.now
+    c.forget_list.ensures ∙ ap (λ o. option_map without_last o) c.in_ok-keep_list.ensures.kept ∙ forgotten (lists_of c.args.lists.now) c.list.result.now
 
 pub returns-in-Err-clause-seats : goal.returns-in-Err-clause-seats
-returns-in-Err-clause-seats g c = λ i. c.forget_list.ensures.seats i ∙ c.in-Err.ensures.seats i ∙ c.in_ok-keep_list.ensures.seats i
+returns-in-Err-clause-seats g c = c.in-Err.ensures.seats
 
 pub returns-in-Ok-clause-goes : goal.returns-in-Ok-clause-goes
 returns-in-Ok-clause-goes g c = c.in-Ok.ensures.goes
@@ -75,7 +72,7 @@ pub returns-in-Err-clause-device : goal.returns-in-Err-clause-device
 returns-in-Err-clause-device g c = c.in-Err.ensures.device
 
 pub returns-in_err-keep_list-clause-seats : goal.returns-in_err-keep_list-clause-seats
-returns-in_err-keep_list-clause-seats g c = c.in_err-keep_list.ensures.seats
+returns-in_err-keep_list-clause-seats g c = λ i. refl
 
 pub returns-in_err-keep_list-clause-same : goal.returns-in_err-keep_list-clause-same
 returns-in_err-keep_list-clause-same g c = record { rules = refl; names = refl }
@@ -89,7 +86,7 @@ step_noted-requires-clause-is_open g c = c.requires.is_open
 pub returns-in_err-keep_list-clause-noted : goal.returns-in_err-keep_list-clause-noted
 returns-in_err-keep_list-clause-noted g c =
     let p = err_from_is_err_and c.from_residual.result c.from_residual.ensures.1 in
-    rw (p.1, p.2) c.in_err-keep_list.ensures.quiet
+    rw (p.1, p.2) (record { stays = refl; speaks = refl; tells = refl; counts = refl; stores = refl })
 
 pub returns-in_err-keep_list-clause-kept : goal.returns-in_err-keep_list-clause-kept
 returns-in_err-keep_list-clause-kept g c =
@@ -141,13 +138,13 @@ pub returns-in-Err-clause-kept : goal.returns-in-Err-clause-kept
 returns-in-Err-clause-kept g c = tt
 
 pub returns-in-Ok-clause-room : goal.returns-in-Ok-clause-room
-returns-in-Ok-clause-room g c = λ n. c.in-Ok.ensures.room n ∙ c.in_ok-keep_list.ensures.room n
+returns-in-Ok-clause-room g c = c.in-Ok.ensures.room
 
 pub returns-in-Err-clause-room : goal.returns-in-Err-clause-room
-returns-in-Err-clause-room g c = λ n. c.forget_list.ensures.room n ∙ c.in-Err.ensures.room n ∙ c.in_ok-keep_list.ensures.room n
+returns-in-Err-clause-room g c = c.in-Err.ensures.room
 
 pub returns-in_err-keep_list-clause-room : goal.returns-in_err-keep_list-clause-room
-returns-in_err-keep_list-clause-room g c = c.in_err-keep_list.ensures.room
+returns-in_err-keep_list-clause-room g c = λ n. refl
 
 pub returns-in_err-keep_list-clause-blames : goal.returns-in_err-keep_list-clause-blames
 returns-in_err-keep_list-clause-blames g c =

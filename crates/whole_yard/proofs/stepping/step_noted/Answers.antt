@@ -47,9 +47,6 @@ returns-in-Err-clause-still g c = λ honest none.
     let s = installing c.args.install.now in
     still_then s (next_phase s) (g.D.Dir.state c.args.dir.now) (g.D.Dir.state c.make_step.new.dir) c.in-Err.fault (c.in-Err.ensures.changes honest) none
 
-pub returns-in-Ok-clause-lists : goal.returns-in-Ok-clause-lists
-returns-in-Ok-clause-lists g c = c.note_step.ensures.same ∙ c.in_ok-reserve.ensures.same
-
 pub returns-in-Ok-clause-goes : goal.returns-in-Ok-clause-goes
 returns-in-Ok-clause-goes g c = c.in-Ok.ensures.goes
 
@@ -64,9 +61,6 @@ returns-in-Ok-clause-stops g c = c.in-Ok.ensures.stops
 
 pub returns-in-Ok-clause-fits : goal.returns-in-Ok-clause-fits
 returns-in-Ok-clause-fits g c = c.in-Ok.ensures.fits
-
-pub returns-in-Err-clause-lists : goal.returns-in-Err-clause-lists
-returns-in-Err-clause-lists g c = c.note_fault.ensures.lists ∙ c.in_ok-reserve.ensures.same
 
 pub returns-in-Err-clause-goes : goal.returns-in-Err-clause-goes
 returns-in-Err-clause-goes g c = c.in-Err.ensures.goes
@@ -85,9 +79,6 @@ returns-in-Err-clause-fits g c = c.in-Err.ensures.fits
 
 pub returns-in-Err-clause-device : goal.returns-in-Err-clause-device
 returns-in-Err-clause-device g c = c.in-Err.ensures.device
-
-pub returns-in_err-reserve-clause-lists : goal.returns-in_err-reserve-clause-lists
-returns-in_err-reserve-clause-lists g c = c.in_err-reserve.ensures.same
 
 pub returns-in_err-reserve-clause-seats : goal.returns-in_err-reserve-clause-seats
 returns-in_err-reserve-clause-seats g c = c.in_err-reserve.ensures.seats

@@ -74,6 +74,5 @@ returns-clause-makes g c =
       room = λ n.
           let all : n + room_needed s.connections + 1 ≡ n + room_needed old.state.connections = omega (arith, less) in
           c.note.ensures.room (n + room_needed s.connections) ∙ ap (λ (k : ℕ). has_room old.journal k) all;
-      same = c.note.ensures.lists;
       seats = λ i. refl;
     }

@@ -92,6 +92,5 @@ returns-clause-makes g c =
       room = λ m.
           let all : m + room_needed s.connections + 1 ≡ m + room_needed old.state.connections = omega (arith, less) in
           c.note.ensures.room (m + room_needed s.connections) ∙ ap (λ (k : ℕ). has_room old.journal k) all;
-      same = c.note.ensures.lists;
       seats = λ i. refl;
     }

@@ -5,7 +5,7 @@ use Rattle.server_yard.specs.Rooms.{KeepsRoom}
 use Rattle.server_yard.specs.Yards.{yard_books, yard_roll}
 use Rattle.whole_yard.specs.ConnectionTurns.{NotesTold}
 use Rattle.whole_yard.specs.Callers.{spoken_by}
-use Rattle.whole_yard.proofs.Keeping.{kept_told, phase_told}
+use Rattle.whole_yard.proofs.Keeping.{kept_told, phase_told, told_stored}
 use Rattle.whole_yard.proofs.yard.WholeYard.connection.Goals as goal
 
 -- the caller speaks, and then the turn is run
@@ -24,7 +24,7 @@ returns g c =
         installing = refl;
         kept = refl;
         begun = refl;
-        lists_same = ran.same ∙ c.speaker.ensures.same;
+        lists_same = refl;
       };
     }
 
@@ -43,6 +43,7 @@ invariant_of-self g c =
       phase = old.phase ∙ sym (phase_told _ before after notes);
       going = old.going;
       finds = old.finds;
+      listed = old.listed ∙ sym (told_stored _ before after notes);
       installed = λ met. ∥∥₁_map (old.installed met)
-          (λ k. kept_told _ before after notes old.yard.small (ran.same ∙ spoke.same) _ _ _ k);
+          (λ k. kept_told _ before after notes old.yard.small _ _ _ _ k);
     }

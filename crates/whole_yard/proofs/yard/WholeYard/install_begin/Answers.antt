@@ -1,5 +1,5 @@
 use Rattle.std.proofs.Common.{◌∷◌, ◌++◌, [], List, Option, None, Some, inr, refl, sym, ap, subst, ◌∙◌}
-use Rattle.std.specs.Prelude.{Ok, Err, if◌then◌else◌, option_map}
+use Rattle.std.specs.Prelude.{Ok, Err, if◌then◌else◌, is_some, option_map}
 use Rattle.dir_calls.specs.Directory.{Directory}
 use Rattle.rule_lookup.specs.Pairs.{Rule}
 use Rattle.server_events.specs.ServerState.{ServerState, phase_after}
@@ -12,7 +12,7 @@ use Rattle.rules_install.specs.declared.fault.InstallFault.{InstallFault}
 use Rattle.server_events.specs.declared.event.Event.{Event}
 use Rattle.server_events.specs.declared.event.Event.TheVariants.{Stepped}
 use Rattle.whole_yard.specs.Installed.{KeepsHistory}
-use Rattle.whole_yard.specs.Kept.{IsGoing, installing_of, is_kept, phase_of, rules_of}
+use Rattle.whole_yard.specs.Kept.{IsGoing, installing_of, is_kept, lists_of, phase_of, rules_of}
 use Rattle.server_yard.specs.Rolls.{Notes}
 use Rattle.server_yard.specs.Yards.{yard_books, yard_roll, yard_server}
 use Rattle.whole_yard.specs.Standing.{LeadsOn, LeadsSome, YardState}
@@ -20,7 +20,7 @@ use Rattle.whole_yard.specs.Stepping.{kept_then}
 use Rattle.whole_yard.specs.WholeYards.{whole_state}
 use Rattle.whole_yard.proofs.Beginning.{back_of, disk_event, disk_kept, disk_phase, disk_then, fault_kept, first_is, kept_fault, named_by, named_rules, none_event, not_disk_over, quiet_of}
 use Rattle.whole_yard.proofs.Going.{going_at, kept_stepped, not_over, states, steps_to}
-use Rattle.whole_yard.proofs.Keeping.{kept_quiet, none_not_some, one_more_of, same_some}
+use Rattle.whole_yard.proofs.Keeping.{is_some-map, kept_quiet, none_not_some, one_more_of, same_some, some_stored}
 use Rattle.whole_yard.proofs.Stepped.{has_new, it_new, step_leads}
 use Rattle.whole_yard.proofs.yard.WholeYard.install_begin.Goals as goal
 
@@ -63,14 +63,15 @@ invariant_of-self g c =
       phase = ap phase_of kept ∙ reached ∙ sym (ap (λ (u : ServerState). u.phase) noted.happens ∙ ap phase_after is);
       going = λ x same. subst (λ (u : Installing). IsGoing u rules) (same_some t x (sym kept ∙ same)) (going_at s t rules Fresh (λ e. absurd (cc)) c.in-Ok.ensures.same (named_by rules s.names.cdb may.for_rules) (λ none. none_not_some r.0 (sym none ∙ r.1)) goes.2 reached);
       finds = λ honest x same. subst (λ (u : Installing). Fits u (state made.new.dir)) (same_some t x (sym kept ∙ same)) (c.in-Ok.ensures.fits honest);
+      listed = ap (λ (o : Option (List (List Rule))). is_some o) c.in-Ok.ensures.kept ∙ is_some-map _ (lists_of old.lists) ∙ old.listed ∙ sym (some_stored (Some (Stepped p)) (yard_roll old.yard) (yard_roll made.new.yard) noted);
       installed = λ met. ∥∥₁_map (old.installed met) (λ k.
           let honest = old.honest met in
-          subst (λ (o : Option Installing). KeepsHistory (yard_books made.new.yard) (record (whole_state old) { directory = state made.new.dir; server = (yard_server made.new.yard); installing = o }))
+          subst (λ (o : Option Installing). KeepsHistory (yard_books made.new.yard) (lists_of made.new.lists) (record (whole_state old) { directory = state made.new.dir; server = (yard_server made.new.yard); installing = o }))
           (ap (λ (q : Phase). kept_then t (Ok q)) is ∙ sym kept)
           (kept_stepped (whole_state old) (yard_server made.new.yard) (state made.new.dir) s t (next_phase s) k
           (has_new k.installed.world (state old.dir) rules s r.0 k.installed.has_directory k.installed.has_rules r.1 r.2 may.unbegun) (λ q h. h.1 ∙ ap (λ (x : Phase). Some x) (sym h.0)) p old.yard.speaker
           (one_more_of (Stepped p) (yard_roll old.yard) (yard_roll made.new.yard) old.yard.small tt noted) goes (c.in-Ok.ensures.leads honest)
-          ((λ fresh. c.in-Ok.ensures.kept ∙ ap (λ (rs : List Rule). option_map (λ (all : List (List Rule)). all ++ rs ∷ []) (yard_roll old.yard).books.lists) (sym c.in-Ok.ensures.same.rules)), λ other. absurd (other is))));
+          ((λ fresh. c.in-Ok.ensures.kept ∙ ap (λ (rs : List Rule). option_map (λ (all : List (List Rule)). all ++ rs ∷ []) (lists_of old.lists)) (sym c.in-Ok.ensures.same.rules)), λ other. absurd (other is))));
     }
 
 pub invariant_of-self-then-is_of_disk : goal.invariant_of-self-then-is_of_disk
@@ -93,9 +94,10 @@ invariant_of-self-then-is_of_disk g c =
       phase = ap phase_of none ∙ sym (disk_phase fault (yard_roll old.yard) (yard_roll made.new.yard) disk c.in-Err.ensures.noted);
       going = λ x same. absurd (none_not_some x (sym none ∙ same));
       finds = λ honest x same. absurd (none_not_some x (sym none ∙ same));
+      listed = ap (λ (o : Option (List (List Rule))). is_some o) c.in-Err.ensures.err ∙ old.listed ∙ sym (some_stored _ (yard_roll old.yard) (yard_roll made.new.yard) c.in-Err.ensures.noted);
       installed = λ met. ∥∥₁_map (old.installed met) (λ k.
           let honest = old.honest met in
-          subst (λ (o : Option Installing). KeepsHistory (yard_books made.new.yard) (record (whole_state old) { directory = state made.new.dir; server = (yard_server made.new.yard); installing = o })) (sym none)
+          subst (λ (o : Option Installing). KeepsHistory (yard_books made.new.yard) (lists_of made.new.lists) (record (whole_state old) { directory = state made.new.dir; server = (yard_server made.new.yard); installing = o })) (sym none)
           (kept_fault (state old.dir) (state made.new.dir) rules (installing_of old.installation) s t fault (yard_roll old.yard) (yard_roll made.new.yard) k
           (has_new k.installed.world (state old.dir) rules s r.0 k.installed.has_directory k.installed.has_rules r.1 r.2 may.unbegun) old.yard.small disk c.in-Err.ensures.noted (c.in-Err.ensures.device honest) c.in-Err.ensures.err (c.in-Err.ensures.leads honest)));
     }
@@ -157,6 +159,7 @@ invariant_of-self-else-is_of_disk g c =
       phase = old.phase ∙ sym (ap (λ (u : ServerState). u.phase) quiet.stays);
       going = old.going;
       finds = λ honest x same. subst (λ (d : Directory). Fits x d) (sym (c.in-Err.ensures.still honest (none_event fault other))) (old.finds honest x same);
+      listed = ap (λ (o : Option (List (List Rule))). is_some o) c.in-Err.ensures.err ∙ old.listed ∙ sym (some_stored _ (yard_roll old.yard) (yard_roll made.new.yard) c.in-Err.ensures.noted);
       installed = λ met. ∥∥₁_map (old.installed met) (λ k. kept_quiet quiet.tells quiet.counts quiet.stores c.in-Err.ensures.err quiet.stays (c.in-Err.ensures.still (old.honest met) (none_event fault other)) refl refl k);
     }
 

@@ -7,14 +7,14 @@ use Rattle.rules_install.specs.Installs.{installing}
 use Rattle.dir_calls.specs.declared.phase.Phase.TheVariants.{Done}
 use Rattle.rules_install.specs.declared.fault.InstallFault.TheVariants.{Over}
 use Rattle.whole_yard.specs.Installed.{KeepsHistory}
-use Rattle.whole_yard.specs.Kept.{installing_of, is_kept, phase_of, rules_of}
+use Rattle.whole_yard.specs.Kept.{installing_of, is_kept, lists_of, phase_of, rules_of}
 use Rattle.server_yard.specs.Rolls.{NotesSome}
 use Rattle.server_yard.specs.Yards.{yard_books, yard_roll, yard_server}
 use Rattle.whole_yard.specs.Standing.{HasUnderWay, LeadsSome, YardState}
 use Rattle.whole_yard.specs.Stepping.{GoesAsStep, event_of_step, kept_after_step}
 use Rattle.whole_yard.specs.WholeYards.{kept_under, whole_roll, whole_state}
 use Rattle.whole_yard.proofs.Going.{going_then, kept_is, kept_numbers, kept_result, later, not_over, phase_then, some_rules, states, steps_to, still_state}
-use Rattle.whole_yard.proofs.Keeping.{kept_quiet, none_not_some}
+use Rattle.whole_yard.proofs.Keeping.{kept_quiet, none_not_some, some_stored}
 use Rattle.whole_yard.proofs.Refusals.{kept_is_last, none_under, over_leads, over_notes}
 use Rattle.whole_yard.proofs.Stepped.{has_kept, it_kept, step_leads}
 use Rattle.whole_yard.proofs.yard.WholeYard.install_step.Goals as goal
@@ -50,6 +50,7 @@ invariant_of-self g c =
       phase = ap phase_of same ∙ old.phase;
       going = λ x is. old.going x (sym same ∙ is);
       finds = λ honest x is. old.finds honest x (sym same ∙ is);
+      listed = old.listed;
       installed = λ met. ∥∥₁_map (old.installed met) (λ k. kept_quiet refl refl refl refl refl refl refl same k);
     }
 
@@ -64,6 +65,7 @@ invariant_of-self-in-AtDone g c =
       phase = ap phase_of same ∙ old.phase;
       going = λ x is. old.going x (sym same ∙ is);
       finds = λ honest x is. old.finds honest x (sym same ∙ is);
+      listed = old.listed;
       installed = λ met. ∥∥₁_map (old.installed met) (λ k. kept_quiet refl refl refl refl refl refl refl same k);
     }
 
@@ -86,13 +88,14 @@ invariant_of-self-in-UnderWay g c =
       phase = ap phase_of kept ∙ phase_then s t (next_phase s) result (yard_roll old.yard) (yard_roll made.new.yard) made.ensures.noted made.ensures.goes (sym (ap phase_of inst) ∙ old.phase);
       going = λ x is. going_then s t (next_phase s) result (rules_of old.rules) made.ensures.same going.for_rules going.follows (λ none. going) made.ensures.goes x (sym kept ∙ is);
       finds = λ honest x is. subst (λ (u : Installing). Fits u (state made.new.dir)) (kept_is t x result (sym kept ∙ is)) (made.ensures.fits honest);
+      listed = old.listed ∙ sym (some_stored _ (yard_roll old.yard) (yard_roll made.new.yard) made.ensures.noted);
       installed = λ met. ∥∥₁_map (old.installed met) (λ k.
           let honest = old.honest met in
           let far = subst (λ (o : Option Installing). HasUnderWay k.installed.world o) inst k.installed.has_installing in
-          subst (λ (o : Option Installing). KeepsHistory (yard_books made.new.yard) (record (whole_state old) { directory = state made.new.dir; server = (yard_server made.new.yard); installing = o })) (sym kept)
-          (kept_result (state old.dir) (state made.new.dir) (rules_of old.rules) (installing_of old.installation) s t (next_phase s) result (yard_roll old.yard) (yard_roll made.new.yard) k inst
+          subst (λ (o : Option Installing). KeepsHistory (yard_books made.new.yard) (lists_of old.lists) (record (whole_state old) { directory = state made.new.dir; server = (yard_server made.new.yard); installing = o })) (sym kept)
+          (kept_result (state old.dir) (state made.new.dir) (rules_of old.rules) (installing_of old.installation) s t (next_phase s) result (yard_roll old.yard) (yard_roll made.new.yard) (lists_of old.lists) k inst
           (has_kept k.installed.world (state old.dir) (rules_of old.rules) s r.0 k.installed.has_directory k.installed.has_rules r.1 (going.for_rules r.0 r.1) far)
-          old.yard.small made.ensures.noted made.ensures.goes (made.ensures.device honest) (made.ensures.leads honest) (made.ensures.still honest) (later s going.begun) made.ensures.lists));
+          old.yard.small made.ensures.noted made.ensures.goes (made.ensures.device honest) (made.ensures.leads honest) (made.ensures.still honest) (later s going.begun)));
     }
 
 pub returns-in-UnderWay-clause-over : goal.returns-in-UnderWay-clause-over
@@ -327,7 +330,7 @@ pub returns-in-UnderWay-clause-rules : goal.returns-in-UnderWay-clause-rules
 returns-in-UnderWay-clause-rules g c = refl
 
 pub returns-in-UnderWay-clause-lists : goal.returns-in-UnderWay-clause-lists
-returns-in-UnderWay-clause-lists g c = c.step_noted-result.ensures.lists
+returns-in-UnderWay-clause-lists g c = refl
 
 pub returns-in-UnderWay-clause-seats : goal.returns-in-UnderWay-clause-seats
 returns-in-UnderWay-clause-seats g c = c.step_noted-result.ensures.seats

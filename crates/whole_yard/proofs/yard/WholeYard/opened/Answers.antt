@@ -4,7 +4,7 @@ use Rattle.std.specs.Prelude.{is_some}
 use Rattle.server_events.specs.declared.event.Event.TheVariants as event
 use Rattle.server_yard.specs.Evidence.{evidence_of}
 use Rattle.server_yard.specs.Yards.{yard_roll}
-use Rattle.whole_yard.proofs.Keeping.{kept_told, makes_told, phase_told}
+use Rattle.whole_yard.proofs.Keeping.{kept_told, makes_told, phase_told, told_stored}
 use Rattle.whole_yard.proofs.yard.WholeYard.opened.Goals as goal
 
 pub invariant_of-self : goal.invariant_of-self
@@ -21,5 +21,6 @@ invariant_of-self g c =
       phase = old.phase ∙ sym (phase_told _ before after notes);
       going = old.going;
       finds = old.finds;
-      installed = λ met. ∥∥₁_map (old.installed met) (λ k. kept_told _ before after notes old.yard.small makes.same _ _ _ k);
+      listed = old.listed ∙ sym (told_stored _ before after notes);
+      installed = λ met. ∥∥₁_map (old.installed met) (λ k. kept_told _ before after notes old.yard.small _ _ _ _ k);
     }
