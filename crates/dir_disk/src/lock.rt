@@ -172,15 +172,35 @@ pub(crate) fn take_free<R: Files<File = File>>(
     path: &str,
     only: Option<Identity>,
 ) -> io::Result<()> {
-    let found = files.symlink_metadata(path)?;
-    check_file(&found)?;
-    check_wanted(&found, only)?;
-    check_not_input(files, &found)?;
+    check_removable(files, &files.symlink_metadata(path)?, only)?;
     // (if a pipe was put there meanwhile, opening it to read and write does not wait)
     let opened = OpenOptions::new().read(true).write(true).open(files, path);
     let file = unless_taken(opened, ErrorKind::PermissionDenied)?;
-    if !hold(files, &file, path, RangeLock::Exclusive)?
-        && !hold(files, &file, path, RangeLock::Shared)?
+    let removed = remove_held(files, &file, path, only);
+    drop(file);
+    removed
+}
+
+// Checks that what was looked at may be taken away.
+fn check_removable<R: Files>(
+    files: &R,
+    found: &Metadata,
+    only: Option<Identity>,
+) -> io::Result<()> {
+    check_file(found)?;
+    check_wanted(found, only)?;
+    check_not_input(files, found)
+}
+
+// Takes away a file that was opened, if no other process has it, and it is the one that is named, if one is.
+fn remove_held<R: Files<File = File>>(
+    files: &R,
+    file: &File,
+    path: &str,
+    only: Option<Identity>,
+) -> io::Result<()> {
+    if !hold(files, file, path, RangeLock::Exclusive)?
+        && !hold(files, file, path, RangeLock::Shared)?
     {
         return Err(taken());
     }

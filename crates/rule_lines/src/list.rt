@@ -89,6 +89,17 @@ impl<'a> Pair<'a> {
     {
         self.line.code
     }
+
+    /// Writes it in place of the bytes of `rule`. After an `Err` any bytes stand there.
+    fn put(&self, rule: &mut StoredRule) -> Result<(), AllocError>
+        ensures key { OnOk result (rule.new.key.items ≡ self.now.address) }
+        ensures code { OnOk result (rule.new.code.items ≡ code_of self.now.instr) }
+    {
+        rule.key.clear();
+        self.append_address(&mut rule.key)?;
+        rule.code.clear();
+        rule.code.extend_from_slice(self.code())
+    }
 }
 
 /// A rule as it is stored: its address, and the code of its instruction.
@@ -173,10 +184,7 @@ impl RuleList {
             line: found.line,
             position: found.position,
         };
-        rule.key.clear();
-        pair.append_address(&mut rule.key)?;
-        rule.code.clear();
-        rule.code.extend_from_slice(pair.code())?;
+        pair.put(rule)?;
         self.near = resume;
         Ok(true)
     }

@@ -1,5 +1,5 @@
 //! The addresses that stood in lines.
-ghost use Rattle.std.specs.Prelude.{◌≡◌, ◌≤◌, ℕ, List, OnOk, IfOk, None, Some, length, true};
+ghost use Rattle.std.specs.Prelude.{◌≡◌, ◌≤◌, ◌++◌, ◌∷◌, [], ℕ, List, OnOk, IfOk, None, Some, length, true};
 ghost use Rattle.rule_lines.specs.Rows.{addresses_under};
 ghost use Rattle.rule_warnings.specs.Spans.{around, is_cut, line_among, line_from, line_spanned};
 ghost use Rattle.rule_warnings.specs.Tables.{IsUpTo, items_of, line_alone, line_under, noted, noted_all, spans_under};
@@ -143,10 +143,17 @@ impl<'a> Seen<'a> {
             ≡ noted_all (line_under self.old) (addresses_under front.now numbers back.now) line other) }
     {
         let around = around(alloc, front, back)?;
-        let mut spans = or_none(alloc, self.spans.remove(&around[..]))?;
-        spans.push(Span { numbers, line })?;
-        self.spans.insert(around, spans)?;
-        Ok(())
+        let spans = self.spans.remove(&around[..]);
+        match with_span(alloc, spans, Span { numbers, line }) {
+            Ok(spans) => {
+                self.spans.insert(around, spans)?;
+                Ok(())
+            }
+            Err(refused) => {
+                drop(around);
+                Err(refused)
+            }
+        }
     }
 }
 
@@ -159,6 +166,20 @@ fn around(alloc: Global, front: &[u8], back: &[u8]) -> Result<Vec<u8>, AllocErro
     around.push(b'-')?;
     around.extend_from_slice(back)?;
     Ok(around)
+}
+
+/// The spans that there are, and one more.
+fn with_span(alloc: Global, spans: Option<Vec<Span>>, span: Span) -> Result<Vec<Span>, AllocError>
+    ensures { IfOk result (λ kept. kept.items ≡ items_of spans ++ span ∷ []) }
+{
+    let mut kept = or_none(alloc, spans)?;
+    match kept.push(span) {
+        Ok(()) => Ok(kept),
+        Err(_) => {
+            drop(kept);
+            Err(AllocError)
+        }
+    }
 }
 
 /// The spans that there are; else none, and room for one: most ranges stand alone.

@@ -1,5 +1,5 @@
 -- A rule is one of the open range, or is found in its line, whose range is then open.
-use Rattle.std.proofs.Common.{◌≡◌, ◌++◌, ◌∙◌, List, Some, true, ap, length, slice_get, refl, subst, sym, arith}
+use Rattle.std.proofs.Common.{◌≡◌, ◌∙◌, List, Some, true, ap, length, slice_get, refl, subst, sym, arith}
 use Rattle.rule_lines.specs.Kept.{IsStored, rule_of_line, rules_in}
 use Rattle.rule_lookup.specs.Pairs.{Rule}
 use Rattle.rule_lines.proofs.OpenLemmas.{IsStored-range}
@@ -41,6 +41,4 @@ returns-clause-written c =
     let found = rw c.deref.ensures.value at c.in-Some-rule_at.ensures in
     let rule : Rule = rule_of_line c.in-Some-rule_at.found.line c.in-Some-rule_at.found.position in
     let here : slice_get c.args.self.now c.args.i ≡ Some rule = ap (λ (rules : List Rule). slice_get rules c.args.i) (sym c.self.view_is) ∙ found.rule in
-    let key = c.in_ok-append_address.ensures ∙ ap (λ bytes. bytes ++ rule.address) c.clear.ensures.items in
-    let code = c.in_ok-extend_from_slice.ensures.items ∙ ap (λ bytes. bytes ++ c.code.result.now) c.clear-2.ensures.items ∙ c.code.ensures in
-    subst (λ at. IsStored at true c.append_address.new.out.items c.extend_from_slice.new.self.items) (sym here) (refl, key, code)
+    subst (λ at. IsStored at true c.put.new.rule.key.items c.put.new.rule.code.items) (sym here) (refl, c.in_ok-put.ensures.key, c.in_ok-put.ensures.code)
