@@ -1,7 +1,7 @@
 //! The tool: its words, what it opens, and the server.
 ghost use Rattle.std.specs.Prelude.{◌≡◌, ◌⊎◌, false, map, IfOk, IfErr};
 ghost use Rattle.fault_hints.specs.Voices.{mode_by_name};
-ghost use Rattle.server_parts.specs.Asked.{FailsNames};
+ghost use Rattle.server_parts.specs.Asked.{FailsNames, IsAskedPlan};
 ghost use Rattle.server_parts.specs.declared.fault.ServerFault.TheVariants.{CannotListen, OutOfMemory, WriteFault};
 ghost use Rattle.ucspi.specs.Asked.{AcceptsAsAsked, AreAsked, AreLimits, IsAskedLog};
 ghost use Rattle.ucspi.specs.Rules.{AreRulesOf, rules_missing};
@@ -17,6 +17,7 @@ use crate::rules::SystemRules;
 use crate::serving::{ServerParts, serve};
 use crate::system::{OnSystem, System, SystemOf};
 use byte_streams::Patient;
+use child_jobs::Plan;
 use fault_hints::{Voice, append_help};
 use server_events::Journal;
 use server_log::Log;
@@ -28,7 +29,7 @@ use server_parts::signals::forgets_programs;
 use server_parts::{ServerFailure, ServerFault, TcpserverFault};
 use server_words::{ConnectionLimits, Level, ServerWords, read_server_words};
 use server_yard::{Places, Yard};
-use std::alloc::Global;
+use std::alloc::{AllocError, Global};
 use std::fs::{File, Files};
 use std::io::Write;
 use std::marker::Brand;
@@ -113,11 +114,21 @@ fn run_server<P: System + Send + Sync>(
     voice: Voice,
 ) -> Result<Finished, ServerFailure> {
     if forgets_programs(rt) {
+        drop(lines);
         return Err(ServerFailure::from(ServerFault::CannotWait));
     }
-    let server = parts_of(rt, words)?;
-    let log = log_of(rt.alloc(), lines, words, voice);
-    open_and_run::<P>(rt, errors, log, &server, words)
+    match parts_of(rt, words) {
+        Ok(server) => {
+            let log = log_of(rt.alloc(), lines, words, voice);
+            let ended = open_and_run::<P>(rt, errors, log, &server, words);
+            drop(server);
+            ended
+        }
+        Err(failure) => {
+            drop(lines);
+            Err(failure)
+        }
+    }
 }
 
 // What a server has by its words, but for its socket, its yard and its log.
@@ -128,26 +139,51 @@ fn parts_of<'a, R: Env + AllocGlobal + Files>(
     ensures asked { IfOk result (AreAsked words.now) }
     ensures refused { IfErr result (λ failure. FailsNames words.now.hosts failure.fault) }
 {
-    let alloc = rt.alloc();
-    let plan = plan_of(alloc, &SystemGiven(rt), words)?;
-    let names = names_of(alloc, rt, words)?;
-    let search = SearchPath::own(alloc, rt)?;
-    let (mode, limits, wrapping) = (words.mode(), words.limits(), words.wrapping());
-    let supply = supply_for(mode, limits.connections, plan.inherited().len());
+    let names = names_of(rt.alloc(), rt, words)?;
+    let Ok((plan, search)) = program_by(rt, words) else {
+        drop(names);
+        return Err(ServerFailure::from(ServerFault::OutOfMemory));
+    };
+    let (mode, limits) = (words.mode(), words.limits());
     Ok(ServerParts {
+        supply: supply_for(mode, limits.connections, plan.inherited().len()),
         plan,
         search,
         names,
         limits,
-        supply,
         reserve: Reserve::new(),
-        passing: Passing {
-            mode,
-            recording: wrapping.records(),
-            input: wrapping.input(),
-            output: wrapping.output(),
-        },
+        passing: passing_by(words),
     })
+}
+
+// The plan of a server's connections, and where their program is looked for.
+fn program_by<R: Env + AllocGlobal>(
+    rt: &R,
+    words: &ServerWords<'_>,
+) -> Result<(Plan, SearchPath), AllocError>
+    ensures asked { IfOk result (λ found. IsAskedPlan words.now found.0) }
+{
+    let search = SearchPath::own(rt.alloc(), rt)?;
+    match plan_of(rt.alloc(), &SystemGiven(rt), words) {
+        Ok(plan) => Ok((plan, search)),
+        Err(refused) => {
+            drop(search);
+            Err(refused)
+        }
+    }
+}
+
+// How the bytes of connections pass.
+fn passing_by<'a>(words: &'a ServerWords<'_>) -> Passing<'a>
+    ensures asked { IsAskedPassing words.now result }
+{
+    let wrapping = words.wrapping();
+    Passing {
+        mode: words.mode(),
+        recording: wrapping.records(),
+        input: wrapping.input(),
+        output: wrapping.output(),
+    }
 }
 
 // The log of a server.
@@ -158,25 +194,54 @@ fn log_of<W: Write>(alloc: Global, lines: W, words: &ServerWords<'_>, voice: Voi
     Log::new(alloc, lines, level, voice, limit)
 }
 
-// Looks for the folder of the rules, opens the socket, and runs the server on them.
-fn open_and_run<'a, P: System + Send + Sync>(
+// Looks for the folder of the rules, and runs the server on them.
+fn open_and_run<P: System + Send + Sync>(
+    rt: &P::Runtime,
+    errors: P::Errors,
+    log: Log<P::Lines>,
+    server: &ServerParts<'_>,
+    words: &ServerWords<'_>,
+) -> Result<Finished, ServerFailure>
+    requires asked { AreAsked words.now server.now }
+{
+    match SystemRules::by_words(rt.alloc(), rt, words) {
+        Ok(rules) => {
+            let ended = listen_and_run::<P>(rt, errors, log, server, &rules, words);
+            drop(rules);
+            ended
+        }
+        Err(failure) => {
+            drop(log);
+            Err(failure)
+        }
+    }
+}
+
+// Opens the socket, and runs the server on it.
+fn listen_and_run<'a, P: System + Send + Sync>(
     rt: &'a P::Runtime,
     errors: P::Errors,
     log: Log<P::Lines>,
     server: &'a ServerParts<'_>,
+    rules: &'a SystemRules<'a, P::Runtime>,
     words: &'a ServerWords<'_>,
 ) -> Result<Finished, ServerFailure>
     requires asked { AreAsked words.now server.now }
+    requires rules { AreRulesOf words.now rules.now }
 {
     let mut log = log;
-    let rules = SystemRules::by_words(rt.alloc(), rt, words)?;
     let (search, reserve) = (&server.search, &server.reserve);
     let starter = ProgramStarter::new(rt, search, reserve, server.passing, errors);
-    let acceptor = open_socket::<P>(rt, &mut log, words, &starter)?;
-    let places = Blank::new(server.limits.connections);
-    let run = run_in_yard::<Brand, P>(rt, server, acceptor, log, &rules, words, places);
-    drop(rules);
-    run
+    match open_socket::<P>(rt, &mut log, words, &starter) {
+        Ok(acceptor) => {
+            let places = Blank::new(server.limits.connections);
+            run_in_yard::<Brand, P>(rt, server, acceptor, log, rules, words, places)
+        }
+        Err(failure) => {
+            drop(log);
+            Err(failure)
+        }
+    }
 }
 
 // What accepts the connections of a system.

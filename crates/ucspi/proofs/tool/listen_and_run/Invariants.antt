@@ -1,6 +1,6 @@
 use Rattle.std.specs.Prelude.{false}
 use Rattle.ucspi.specs.Rules.{rules_missing}
-use Rattle.ucspi.proofs.tool.open_and_run.Given as goal
+use Rattle.ucspi.proofs.tool.listen_and_run.Given as goal
 
 abbrev pub ghosts-run_in_yard-L-Ledger : goal.ghosts-run_in_yard-L-Ledger
 ghosts-run_in_yard-L-Ledger g a = record { name = a.places.name; parts = a.places.parts }
