@@ -179,29 +179,35 @@ where
     // nobody is let in any more.
     fn let_in(&self) -> Option<(Permit, V::Work)> {
         let mut door = self.door.lock(self.rt);
+        let work = self.let_in_by(&mut door);
+        drop(door);
+        if work.is_some() {
+            self.means.leave_door(self.rt);
+        }
+        work
+    }
+
+    // The same by this door.
+    fn let_in_by(&self, door: &mut Door<'_, A, V>) -> Option<(Permit, V::Work)> {
         for _ in self.rt.forever() {
             if door.is_over() {
-                self.end(&mut door);
+                self.end(door);
                 break;
             }
-            let Some(permit) = self.means.take(self.rt) else {
-                break;
-            };
+            let permit = self.means.take(self.rt)?;
             match door.accept(&permit) {
                 Some(Ok(came)) => {
                     if let Some(work) = door.admit(&permit, came) {
                         if door.is_over() {
-                            self.end(&mut door);
+                            self.end(door);
                         }
-                        drop(door);
-                        self.means.leave_door(self.rt);
                         return Some((permit, work));
                     }
                     self.means.give_back(self.rt, permit, false);
                 }
                 Some(Err(error)) => {
                     self.means.give_back(self.rt, permit, false);
-                    self.pause(&mut door, error);
+                    self.pause(door, error);
                 }
                 None => self.means.give_back(self.rt, permit, false),
             }
