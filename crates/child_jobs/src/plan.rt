@@ -9,11 +9,24 @@ use std::marker::Model;
 /// that is written first.
 ///
 /// All connections share it. What is a connection's own, as its two ends, stands beside it.
-#[derive(Drop)]
 pub struct Plan {
     program: Program,
     inherited: Environment,
     banner: Vec<u8>,
+}
+
+// Written out, the drop of all that it has is proved here alone.
+impl Drop for Plan {
+    fn drop(self) {
+        let Plan {
+            program,
+            inherited,
+            banner,
+        } = self;
+        drop(program);
+        drop(inherited);
+        drop(banner);
+    }
 }
 
 impl Model for Plan {

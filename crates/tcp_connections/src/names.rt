@@ -8,7 +8,6 @@ use rule_lookup::Peer;
 use std::alloc::{AllocError, Global};
 
 /// How the ends of a connection get their names (the page of `tcpserver`: `-h`, `-H`, `-l`, `-p`, `-P`).
-#[derive(Drop)]
 pub struct HostNames {
     /// The host table (`-N`).
     pub hosts: Option<HostTable>,
@@ -18,6 +17,20 @@ pub struct HostNames {
     pub remote: bool,
     /// Whether a client's name that the table does not confirm is removed (`-p`).
     pub confirm: bool,
+}
+
+// Written out, the drop of all that it has is proved here alone.
+impl Drop for HostNames {
+    fn drop(self) {
+        let HostNames {
+            hosts,
+            local,
+            remote: _,
+            confirm: _,
+        } = self;
+        drop(hosts);
+        drop(local);
+    }
 }
 
 impl HostNames {

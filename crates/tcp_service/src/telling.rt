@@ -38,7 +38,6 @@ pub(crate) struct Begun {
 }
 
 /// That a connection is over: its yard was asked for its end. Only that makes one.
-#[derive(Drop)]
 pub struct Over {
     serial: u64,
     /// Whether its place is never free again.
@@ -49,6 +48,20 @@ pub struct Over {
     last: Snapshot<Reported>,
     ghost end: { ∥ IsEndOf (reported_event last.value) serial ∥₁ },
     ghost retired: { is_retired ≡ retires (reported_event last.value) },
+}
+
+// Written out, the drop of all that it has is proved here alone.
+impl Drop for Over {
+    fn drop(self) {
+        let Over {
+            serial: _,
+            is_retired: _,
+            decided,
+            last,
+        } = self;
+        drop(decided);
+        drop(last);
+    }
 }
 
 impl Over {
