@@ -4,7 +4,8 @@
 //! must look at something else between two reads uses `pump_into`, which reads into room that `new_room` made and that
 //! is kept from call to call. By the contract of `LineWrapper` what a wrapper writes doesn't depend on how the input is
 //! cut. A chain is generic over its kind of wrapper. A `Recorder` is the tap of `recordio`. Only tests show that a
-//! fault is one of the reader or the writer, and that a `Patient` stream waits as long as it should.
+//! fault is one of the reader or the writer, that a pump makes the reads that it counts, and that a `Patient` stream
+//! waits as long as it should.
 #![tactic(auto)]
 
 pub mod chain;

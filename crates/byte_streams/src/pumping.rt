@@ -1,5 +1,5 @@
 //! The pump: it reads a stream, passes each piece through a chain, and writes what that gives.
-ghost use Rattle.std.specs.Prelude.{◌≡◌, ◌≢◌, ◌⊎◌, ◌^◌, ◌<◌, ◌≤◌, length, true, false, IfOk};
+ghost use Rattle.std.specs.Prelude.{◌≡◌, ◌≢◌, ◌⊎◌, ◌<◌, ◌≤◌, length, true, false, IfOk};
 ghost use Rattle.byte_streams.specs.Chains.{has_failed, wrappers_of};
 ghost use Rattle.byte_streams.specs.Wrappers.{through};
 ghost use Rattle.byte_streams.specs.Pumps.{Pumped, ends_of};
@@ -69,7 +69,7 @@ pub fn pump<R: Read, W: Write, S: LineWrapper, T: Tap>(
     ensures over { result.why ≡ Why.ReadsOver → result.reads ≡ most_reads }
     ensures within { result.reads ≤ most_reads }
     ensures failed { result.why ≡ Why.Failed → has_failed chain.old ≡ true }
-    ensures gives_none { has_failed chain.old ≡ true → result.why ≢ Why.End }
+    ensures gives_none { has_failed chain.old ≡ true → (result.why ≢ Why.End) × (writer.new ≡ writer.old) }
     ensures unfinished { (result.why ≡ Why.ReadFault) ⊎ (result.why ≡ Why.ReadsOver)
         → has_failed chain.new ≡ has_failed chain.old }
     ensures wholes { through S.whole (wrappers_of chain.new) ≡ through S.whole (wrappers_of chain.old) }
@@ -114,7 +114,7 @@ pub fn pump_into<R: Read, W: Write, S: LineWrapper, T: Tap>(
     ensures over { result.why ≡ Why.ReadsOver → result.reads ≡ most_reads }
     ensures within { result.reads ≤ most_reads }
     ensures failed { result.why ≡ Why.Failed → has_failed chain.old ≡ true }
-    ensures gives_none { has_failed chain.old ≡ true → result.why ≢ Why.End }
+    ensures gives_none { has_failed chain.old ≡ true → (result.why ≢ Why.End) × (writer.new ≡ writer.old) }
     ensures unfinished { (result.why ≡ Why.ReadFault) ⊎ (result.why ≡ Why.ReadsOver)
         → has_failed chain.new ≡ has_failed chain.old }
     ensures wholes { through S.whole (wrappers_of chain.new) ≡ through S.whole (wrappers_of chain.old) }
